@@ -1,0 +1,44 @@
+//! The program `draw`: answers the balls of a draw with the choices that may follow.
+#![tactic(auto)]
+
+use draw_ports::{OpenGate, StdSink, StdSource};
+use draw_top::{Status, run_draw};
+use std::process::ExitCode;
+use std::{env, io};
+
+/// The number of a status, with which the program ends.
+fn exit_code(status: Status) -> ExitCode {
+    match status {
+        Status::Ok => ExitCode::from(0),
+        Status::Usage => ExitCode::from(1),
+        Status::FileRefused => ExitCode::from(2),
+        Status::ReadFault => ExitCode::from(3),
+        Status::WriteFault => ExitCode::from(4),
+        Status::NoMemory => ExitCode::from(5),
+        Status::TooLong => ExitCode::from(6),
+    }
+}
+
+/// Hands the words after the program's name, standard input and standard output to `run_draw`.
+/// Where a word is no text the words are none, which is Usage; where memory fails while the words
+/// are taken, the program ends with 5.
+fn main(rt: HostRuntime) -> ExitCode {
+    let alloc = rt.alloc();
+    let words: Vec<String> = match env::args(&rt) {
+        Ok(args) => match args.skip(1).collect(alloc) {
+            Ok(words) => words,
+            Err(_) => return ExitCode::from(5),
+        },
+        Err(_) => Vec::new(alloc),
+    };
+    let mut source = StdSource::new(rt.reader());
+    let mut sink = StdSink::new(io::writer(&rt));
+    exit_code(run_draw(
+        &rt,
+        alloc,
+        words.as_slice(),
+        &mut source,
+        &mut sink,
+        &OpenGate,
+    ))
+}

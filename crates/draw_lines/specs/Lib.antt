@@ -1,0 +1,4 @@
+pub mod Inputs
+pub mod Words
+pub mod Texts
+pub mod Answers

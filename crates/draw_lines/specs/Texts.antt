@@ -1,0 +1,95 @@
+-- The lines that answer a command, and the opening.
+use Rattle.std.specs.Prelude.{ℕ, ◌<◌, List, [], ◌∷◌, ◌++◌, length, codes, Option, Some, None, slice_get}
+use Rattle.std.specs.Fmt.{decimal}
+use Rattle.team_files.specs.declared.team.Team.{Team}
+use Rattle.team_files.specs.declared.team_id.TeamId.{TeamId}
+use Rattle.rule_sets.specs.Files.{DrawFile}
+use Rattle.draw_tables.specs.declared.moves.Move.{Move}
+use Rattle.draw_tables.specs.declared.moves.Choice.{Choice}
+use Rattle.draw_tables.specs.declared.moves.Phase.{Phase}
+use Rattle.draw_state.specs.declared.replies.Refusal.{Refusal}
+use Rattle.draw_state.specs.declared.replies.NextLine.{NextLine}
+use Rattle.draw_state.specs.declared.replies.Reply.{Reply}
+
+abbrev pub code_in : Option Team → List ℕ
+code_in None = []
+code_in (Some team) = team.code
+
+-- a team's code
+abbrev pub code_text : DrawFile → TeamId → List ℕ
+code_text file id = code_in (slice_get file.teams id.0)
+
+abbrev pub choice_text : DrawFile → Choice → List ℕ
+choice_text file (Choice.Team id) = code_text file id
+
+-- the choices, each with a space before it
+abbrev pub choices_text : DrawFile → List Choice → List ℕ
+choices_text file [] = []
+choices_text file (c ∷ cs) = 32 ∷ choice_text file c ++ choices_text file cs
+
+abbrev pub phase_text : DrawFile → Phase → List ℕ
+phase_text file Phase.Runner = codes "next runner-up:"
+phase_text file (Phase.Opponent runner_up) = codes "next opponent " ++ code_text file runner_up ++ codes ":"
+phase_text file Phase.Complete = codes "next:"
+
+-- the line that tells what comes next
+abbrev pub next_text : DrawFile → NextLine → List ℕ
+next_text file (NextLine.Choices phase choices) = phase_text file phase ++ choices_text file choices ++ codes "\n"
+next_text file NextLine.Complete = codes "complete\n"
+next_text file NextLine.Impossible = codes "impossible\n"
+
+abbrev pub refusal_text : Refusal → List ℕ
+refusal_text Refusal.Limit = codes "refused limit\n"
+refusal_text Refusal.Form = codes "refused form\n"
+refusal_text Refusal.Unknown = codes "refused unknown\n"
+refusal_text Refusal.Complete = codes "refused complete\n"
+refusal_text Refusal.Phase = codes "refused phase\n"
+refusal_text Refusal.Excluded = codes "refused excluded\n"
+
+-- the line of a move that a ball added
+abbrev pub move_text : DrawFile → Move → List ℕ
+move_text file (Move.Drawn id) = codes "drawn " ++ code_text file id ++ codes "\n"
+move_text file (Move.Paired runner_up winner) = codes "paired " ++ code_text file runner_up ++ codes " " ++ code_text file winner ++ codes "\n"
+
+abbrev pub moves_text : DrawFile → List Move → List ℕ
+moves_text file [] = []
+moves_text file (m ∷ ms) = move_text file m ++ moves_text file ms
+
+-- The lines of a reply.
+abbrev pub reply_text : DrawFile → Reply → List ℕ
+reply_text file (Reply.Refused refusal) = refusal_text refusal
+reply_text file (Reply.Taken moves next) = moves_text file moves ++ next_text file next
+
+-- The opening: the kind, the number of teams, and what comes next.
+abbrev pub opening_text : DrawFile → NextLine → List ℕ
+opening_text file next = codes "draw pairing " ++ decimal (length file.teams) ++ codes " teams\n" ++ next_text file next
+
+-- ---- what a reply of the file names
+
+abbrev pub NamesTeam : DrawFile → TeamId → Type 0
+NamesTeam file id = id.0 < length file.teams
+
+abbrev pub NamesTeamsInMoves : DrawFile → List Move → Type 0
+NamesTeamsInMoves file [] = Unit {0}
+NamesTeamsInMoves file (Move.Drawn id ∷ ms) = NamesTeam file id × NamesTeamsInMoves file ms
+NamesTeamsInMoves file (Move.Paired r w ∷ ms) = (NamesTeam file r × NamesTeam file w) × NamesTeamsInMoves file ms
+
+abbrev pub NamesTeamsInChoices : DrawFile → List Choice → Type 0
+NamesTeamsInChoices file [] = Unit {0}
+NamesTeamsInChoices file (Choice.Team id ∷ cs) = NamesTeam file id × NamesTeamsInChoices file cs
+
+abbrev pub NamesTeamsInPhase : DrawFile → Phase → Type 0
+NamesTeamsInPhase file Phase.Runner = Unit {0}
+NamesTeamsInPhase file (Phase.Opponent id) = NamesTeam file id
+NamesTeamsInPhase file Phase.Complete = Unit {0}
+
+-- each team of the next line is one of the file
+abbrev pub NamesTeamsInNext : DrawFile → NextLine → Type 0
+NamesTeamsInNext file (NextLine.Choices phase choices) = NamesTeamsInPhase file phase × NamesTeamsInChoices file choices
+NamesTeamsInNext file NextLine.Complete = Unit {0}
+NamesTeamsInNext file NextLine.Impossible = Unit {0}
+
+-- each team of the reply is one of the file
+abbrev pub NamesTeams : DrawFile → Reply → Type 0
+NamesTeams file (Reply.Refused refusal) = Unit {0}
+NamesTeams file (Reply.Taken moves next) = NamesTeamsInMoves file moves × NamesTeamsInNext file next

@@ -1,0 +1,13 @@
+//! Lines of an input, commands as they are written, and the texts of replies.
+#![tactic(auto)]
+
+mod inputs;
+#[cfg(test)]
+mod tests;
+mod texts;
+mod words;
+
+pub use inputs::{first_line, split_input};
+pub use std::alloc::AllocError as NoMemory;
+pub use texts::{opening_text, reply_text};
+pub use words::read_line;

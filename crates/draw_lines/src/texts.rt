@@ -1,0 +1,146 @@
+ghost use Rattle.std.specs.Prelude.{◌≡◌, ◌++◌, IfOk, OnOk, codes};
+ghost use Rattle.draw_lines.specs.Texts.{NamesTeam, NamesTeamsInMoves, NamesTeamsInChoices, NamesTeamsInPhase, NamesTeamsInNext, NamesTeams};
+ghost use Rattle.draw_lines.specs.Texts.{code_text, choices_text, phase_text, next_text, refusal_text, move_text, moves_text, reply_text, opening_text};
+
+use draw_state::{NextLine, Refusal, Reply};
+use draw_tables::{Choice, Move, Phase};
+use rule_sets::DrawFile;
+use std::alloc::{AllocError, Global};
+use team_files::TeamId;
+
+/// The lines of a reply, each with its line feed.
+pub fn reply_text(alloc: Global, file: &DrawFile, reply: &Reply) -> Result<Vec<u8>, AllocError>
+    requires teams { NamesTeams file.now reply.now }
+    ensures { IfOk result (λ text. text.items ≡ reply_text file.now reply.now) }
+{
+    match reply {
+        Reply::Refused(refusal) => Vec::from_slice(alloc, refusal_text(*refusal).as_bytes()),
+        Reply::Taken { moves, next } => {
+            let mut text = Vec::new(alloc);
+            add_moves(&mut text, file, moves.as_slice())?;
+            add_next(&mut text, file, next)?;
+            Ok(text)
+        }
+    }
+}
+
+/// The lines of the opening, each with its line feed.
+pub fn opening_text(alloc: Global, file: &DrawFile, next: &NextLine) -> Result<Vec<u8>, AllocError>
+    requires teams { NamesTeamsInNext file.now next.now }
+    ensures { IfOk result (λ text. text.items ≡ opening_text file.now next.now) }
+{
+    let number = file.teams().number();
+    let first = format!(in alloc; "draw pairing {number} teams\n")?;
+    let mut text = first.into_bytes();
+    add_next(&mut text, file, next)?;
+    Ok(text)
+}
+
+fn refusal_text(refusal: Refusal) -> &'static str
+    ensures { result.now ≡ refusal_text refusal }
+{
+    match refusal {
+        Refusal::Limit => "refused limit\n",
+        Refusal::Form => "refused form\n",
+        Refusal::Unknown => "refused unknown\n",
+        Refusal::Complete => "refused complete\n",
+        Refusal::Phase => "refused phase\n",
+        Refusal::Excluded => "refused excluded\n",
+    }
+}
+
+/// Writes the line of each move.
+fn add_moves(text: &mut Vec<u8>, file: &DrawFile, moves: &[Move]) -> Result<(), AllocError>
+    requires teams { NamesTeamsInMoves file.now moves.now }
+    ensures { OnOk result (text.new.items ≡ text.old.items ++ moves_text file.now moves.now) }
+{
+    for added in moves {
+        match *added {
+            Move::Drawn(team) => add_drawn(text, file, team)?,
+            Move::Paired(runner, winner) => add_paired(text, file, runner, winner)?,
+        }
+    }
+    Ok(())
+}
+
+fn add_drawn(text: &mut Vec<u8>, file: &DrawFile, team: TeamId) -> Result<(), AllocError>
+    requires team { NamesTeam file.now team }
+    ensures { OnOk result (text.new.items ≡ text.old.items ++ codes "drawn " ++ code_text file.now team ++ codes "\n") }
+{
+    text.extend_from_slice(b"drawn ")?;
+    text.extend_from_slice(code_text(file, team).as_bytes())?;
+    text.push(b'\n')?;
+    Ok(())
+}
+
+fn add_paired(
+    text: &mut Vec<u8>,
+    file: &DrawFile,
+    runner: TeamId,
+    winner: TeamId,
+) -> Result<(), AllocError>
+    requires runner { NamesTeam file.now runner }
+    requires winner { NamesTeam file.now winner }
+    ensures { OnOk result (text.new.items ≡ text.old.items ++ codes "paired " ++ code_text file.now runner ++ codes " " ++ code_text file.now winner ++ codes "\n") }
+{
+    text.extend_from_slice(b"paired ")?;
+    text.extend_from_slice(code_text(file, runner).as_bytes())?;
+    text.push(b' ')?;
+    text.extend_from_slice(code_text(file, winner).as_bytes())?;
+    text.push(b'\n')?;
+    Ok(())
+}
+
+/// Writes the line of what comes next.
+fn add_next(text: &mut Vec<u8>, file: &DrawFile, next: &NextLine) -> Result<(), AllocError>
+    requires teams { NamesTeamsInNext file.now next.now }
+    ensures { OnOk result (text.new.items ≡ text.old.items ++ next_text file.now next.now) }
+{
+    match next {
+        NextLine::Choices { phase, choices } => {
+            add_phase(text, file, *phase)?;
+            add_choices(text, file, choices.as_slice())?;
+            text.push(b'\n')?;
+            Ok(())
+        }
+        NextLine::Complete => text.extend_from_slice(b"complete\n"),
+        NextLine::Impossible => text.extend_from_slice(b"impossible\n"),
+    }
+}
+
+fn add_phase(text: &mut Vec<u8>, file: &DrawFile, phase: Phase) -> Result<(), AllocError>
+    requires teams { NamesTeamsInPhase file.now phase }
+    ensures { OnOk result (text.new.items ≡ text.old.items ++ phase_text file.now phase) }
+{
+    match phase {
+        Phase::Runner => text.extend_from_slice(b"next runner-up:"),
+        Phase::Opponent { runner } => {
+            text.extend_from_slice(b"next opponent ")?;
+            text.extend_from_slice(code_text(file, runner).as_bytes())?;
+            text.push(b':')?;
+            Ok(())
+        }
+        Phase::Complete => text.extend_from_slice(b"next:"),
+    }
+}
+
+/// Writes each choice, with a space before it.
+fn add_choices(text: &mut Vec<u8>, file: &DrawFile, choices: &[Choice]) -> Result<(), AllocError>
+    requires teams { NamesTeamsInChoices file.now choices.now }
+    ensures { OnOk result (text.new.items ≡ text.old.items ++ choices_text file.now choices.now) }
+{
+    for choice in choices {
+        let Choice::Team(team) = *choice;
+        text.push(b' ')?;
+        text.extend_from_slice(code_text(file, team).as_bytes())?;
+    }
+    Ok(())
+}
+
+/// The code of a team.
+fn code_text(file: &DrawFile, team: TeamId) -> &str
+    requires { NamesTeam file.now team }
+    ensures { result.now ≡ code_text file.now team }
+{
+    file.teams().get(team).code.text()
+}

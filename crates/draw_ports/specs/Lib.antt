@@ -1,0 +1,4 @@
+pub mod Causes
+pub mod Supply
+pub mod Store
+pub mod Adapted

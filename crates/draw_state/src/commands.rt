@@ -1,0 +1,15 @@
+use team_files::Code;
+
+/// What a ball says: a team's code or a number.
+#[derive(Clone, Copy, Debug, PartialEq, Eq)]
+pub enum Word {
+    Team(Code),
+    Number(u32),
+}
+
+/// What a line asks for. A line that is no command is `Bad`.
+#[derive(Clone, Copy, Debug, PartialEq, Eq)]
+pub enum Command {
+    Ball(Word),
+    Bad,
+}

@@ -1,0 +1,12 @@
+//! Commands and replies of a draw: the accepted choice or the first refusal, and runs of commands.
+#![tactic(auto)]
+
+mod commands;
+mod judging;
+mod lists;
+mod replies;
+
+pub use commands::{Command, Word};
+pub use judging::{choices_of, judge_command, law_states_stay, next_line};
+pub use lists::{Choices, Moves};
+pub use replies::{NextLine, Refusal, Reply};

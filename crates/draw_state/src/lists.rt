@@ -1,0 +1,66 @@
+ghost use Rattle.std.specs.Prelude.{◌≡◌};
+
+use draw_tables::{Choice, Move};
+use std::marker::Model;
+
+/// Moves in order. Contracts see their list.
+#[derive(Drop)]
+pub struct Moves {
+    moves: Vec<Move>,
+}
+
+impl Model for Moves {
+    ghost use Rattle.std.specs.Prelude.{List};
+    ghost use Rattle.draw_tables.specs.declared.moves.Move.{Move};
+
+    ghost Value = { List Move };
+
+    ghost view = { λ m. m.moves.items };
+}
+
+impl Moves {
+    /// The moves of a vector. Takes no memory.
+    pub fn new(moves: Vec<Move>) -> Moves
+        ensures { result ≡ moves.items }
+    {
+        Moves { moves }
+    }
+
+    /// The moves in order.
+    pub fn as_slice(&self) -> &[Move]
+        ensures { result.now ≡ self.now }
+    {
+        self.moves.as_slice()
+    }
+}
+
+/// Choices in order. Contracts see their list.
+#[derive(Drop)]
+pub struct Choices {
+    choices: Vec<Choice>,
+}
+
+impl Model for Choices {
+    ghost use Rattle.std.specs.Prelude.{List};
+    ghost use Rattle.draw_tables.specs.declared.moves.Choice.{Choice};
+
+    ghost Value = { List Choice };
+
+    ghost view = { λ c. c.choices.items };
+}
+
+impl Choices {
+    /// The choices of a vector. Takes no memory.
+    pub fn new(choices: Vec<Choice>) -> Choices
+        ensures { result ≡ choices.items }
+    {
+        Choices { choices }
+    }
+
+    /// The choices in order.
+    pub fn as_slice(&self) -> &[Choice]
+        ensures { result.now ≡ self.now }
+    {
+        self.choices.as_slice()
+    }
+}

@@ -1,0 +1,7 @@
+use Rattle.std.proofs.Common.{◌≡◌, drop}
+use Rattle.draw_tables.specs.States.{is_drawn}
+use Rattle.draw_tables.proofs.candidates.is_drawn.Given as goal
+
+-- none of the moves before this one
+abbrev pub invariant-loop-step : goal.invariant-loop-step
+invariant-loop-step l = is_drawn l.team (drop l.step-index l.moves) ≡ is_drawn l.team l.moves

@@ -1,0 +1,4 @@
+pub mod Pots
+pub mod Pairings
+pub mod States
+pub mod Offers

@@ -1,0 +1,30 @@
+ghost use Rattle.std.specs.Prelude.{◌≡◌, ◌<◌, ◌^◌, length, IfOk};
+ghost use Rattle.draw_tables.specs.Pots.{AreTeamsOf, pot_from, teams_of_pot};
+
+use rule_sets::DrawFile;
+use std::alloc::{AllocError, Global};
+use team_files::{TeamId, Teams};
+
+/// The teams of a pot in file order. `pot` counts from 1.
+pub fn teams_of_pot(alloc: Global, file: &DrawFile, pot: u32) -> Result<Vec<TeamId>, AllocError>
+    ensures teams { IfOk result (λ teams. teams.items ≡ teams_of_pot pot file.now) }
+    ensures within { IfOk result (λ teams. AreTeamsOf file.now teams.items) }
+{
+    let found = members_of(alloc, file.teams(), pot)?;
+    Ok(found)
+}
+
+/// The teams of a pot, in order.
+fn members_of(alloc: Global, teams: &Teams, pot: u32) -> Result<Vec<TeamId>, AllocError>
+    ensures { IfOk result (λ found. found.items ≡ pot_from pot 0 teams.now) }
+{
+    let mut found = Vec::new(alloc);
+    for place in 0..teams.number() {
+        let id = TeamId(place);
+        if teams.get(id).pot != pot {
+            continue;
+        }
+        found.push(id)?;
+    }
+    Ok(found)
+}

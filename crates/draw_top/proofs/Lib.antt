@@ -1,0 +1,4 @@
+pub mod Names
+pub mod Answering
+pub mod Gains
+pub mod Function

@@ -1,0 +1,32 @@
+use Rattle.std.proofs.Common.{inl, inr}
+use Rattle.draw_top.proofs.Gains.{gains_answer, gains_refusal, gains_part, not_refused}
+use Rattle.draw_top.proofs.following.follow.Goals as goal
+
+pub returns-in-Ok-put_all-clause-ok : goal.returns-in-Ok-put_all-clause-ok
+returns-in-Ok-put_all-clause-ok g c = λ _.
+    let wrote = rw c.deref-in-Ok-Answer.ensures.value at c.in-Ok-put_all.ensures.all in
+    let read = rw (c.deref.ensures.value, c.in-Ok-Answer.field-0-is) at c.in-Ok-Answer.ensures in
+    gains_answer c.in-Ok-read_all.input.items c.in-Ok-Answer.text.items _ _ _ _ c.in-Ok-read_all.ensures.all c.in-Ok-read_all.ensures.end read wrote
+
+pub returns-in-Ok-Answer-clause-write_part : goal.returns-in-Ok-Answer-clause-write_part
+returns-in-Ok-Answer-clause-write_part g c = λ _ _.
+    let wrote = rw c.deref-in-Ok-Answer.ensures.value at c.in-Err-put_all.ensures.some in
+    let read = rw (c.deref.ensures.value, c.in-Ok-Answer.field-0-is) at c.in-Ok-Answer.ensures in
+    gains_part c.in-Ok-read_all.input.items c.in-Ok-Answer.text.items _ _ _ _ c.in-Ok-read_all.ensures.all c.in-Ok-read_all.ensures.end (inl read) wrote
+
+pub returns-in-Ok-put_all-2-clause-refused : goal.returns-in-Ok-put_all-2-clause-refused
+returns-in-Ok-put_all-2-clause-refused g c = λ _.
+    let wrote = rw c.deref-in-Ok-Refusal.ensures.value at c.in-Ok-put_all-2.ensures.all in
+    let read = rw (c.deref.ensures.value, c.in-Ok-Refusal.field-0-is) at c.in-Ok-Refusal.ensures in
+    gains_refusal c.in-Ok-read_all.input.items c.in-Ok-Refusal.line.items _ _ _ _ c.in-Ok-read_all.ensures.all c.in-Ok-read_all.ensures.end read wrote
+
+pub returns-in-Ok-Refusal-clause-write_part : goal.returns-in-Ok-Refusal-clause-write_part
+returns-in-Ok-Refusal-clause-write_part g c = λ _ _.
+    let wrote = rw c.deref-in-Ok-Refusal.ensures.value at c.in-Err-put_all-2.ensures.some in
+    let read = rw (c.deref.ensures.value, c.in-Ok-Refusal.field-0-is) at c.in-Ok-Refusal.ensures in
+    gains_part c.in-Ok-read_all.input.items c.in-Ok-Refusal.line.items _ _ _ _ c.in-Ok-read_all.ensures.all c.in-Ok-read_all.ensures.end (inr read) wrote
+
+pub returns-in-Ok-put_all-2-clause-complete : goal.returns-in-Ok-put_all-2-clause-complete
+returns-in-Ok-put_all-2-clause-complete g c = λ _ holds _ _.
+    let read = rw (c.deref.ensures.value, c.in-Ok-Refusal.field-0-is) at c.in-Ok-Refusal.ensures in
+    absurd (not_refused c.in-Ok-read_all.input.items c.in-Ok-Refusal.line.items _ _ c.in-Ok-read_all.ensures.all c.in-Ok-read_all.ensures.end holds read)

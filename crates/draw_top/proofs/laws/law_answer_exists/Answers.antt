@@ -1,0 +1,5 @@
+use Rattle.draw_top.proofs.Function.{answer_exists}
+use Rattle.draw_top.proofs.laws.law_answer_exists.Goals as goal
+
+pub returns : goal.returns
+returns c = answer_exists

@@ -1,0 +1,193 @@
+ghost use Rattle.std.specs.Prelude.{◌≡◌, ◌≢◌, ◌≤◌, ◌⊎◌, IfOk, OnOk, IfErr, true, false};
+ghost use Rattle.std.specs.Io.KnownBytes.{Appends, Keeps, IsAtEnd};
+ghost use Rattle.draw_ports.specs.Causes.{Rose, AppendsSome};
+ghost use Rattle.rule_sets.specs.Files.{IsFileOf, IsFileFault};
+ghost use Rattle.draw_lines.specs.Inputs.{lines_of};
+ghost use Rattle.draw_lines.specs.Answers.{IsAnswer};
+ghost use Rattle.draw_lines.specs.Texts.{opening_text};
+ghost use Rattle.draw_state.specs.Commands.{next_line};
+ghost use Rattle.draw_tables.specs.States.{phase_of};
+ghost use Rattle.draw_tables.specs.Offers.{IsOffer};
+ghost use Rattle.draw_top.specs.Faults.{fault_line};
+ghost use Rattle.draw_top.specs.Replies.{IsReplyTo};
+ghost use Rattle.draw_top.specs.Outputs.{IsOutputOf};
+ghost use Rattle.draw_top.specs.Follow.{words_of, IsFollow, usage_line, GainsAnswer, GainsRefusal, GainsPart, FitsLimit, PassesLimit, HoldsFile};
+
+use crate::faults::fault_line;
+use crate::status::Status;
+use crate::turn::Turn;
+use draw_lines::{first_line, opening_text, read_line, reply_text, split_input};
+use draw_ports::{PortFault, Sink, Source, put_all, read_all};
+use rule_sets::{DrawFile, rules_from};
+use std::alloc::{AllocError, Global};
+use team_files::{FileFault, read_head};
+
+/// At most so many bytes are taken as an input.
+const INPUT_LIMIT: u64 = 4_194_304;
+
+const USAGE: &[u8] = b"usage: draw follow|prove|room|trial N [--workers 1..16]\n";
+
+/// Whether the words are the one form, `follow` alone.
+fn is_follow(words: &[String]) -> bool
+    ensures yes { result ≡ true → IsFollow (words_of words.now) }
+    ensures no { result ≡ false → IsFollow (words_of words.now) → ⊥ }
+{
+    match words {
+        [word] => word.as_str() == "follow",
+        _ => false,
+    }
+}
+
+/// The draw file of a head, or its first fault.
+fn read_file(alloc: Global, head: &[u8]) -> Result<DrawFile, FileFault>
+    ensures ok { IfOk result (λ file. IsFileOf head.now file) }
+    ensures fault { IfErr result (λ f. f ≢ FileFault.NoMemory → IsFileFault head.now f) }
+{
+    match read_head(alloc, head) {
+        Ok(head) => rules_from(alloc, head),
+        Err(fault) => Err(fault),
+    }
+}
+
+/// The answer text of a file and the lines of these bytes.
+fn answer_text(alloc: Global, file: DrawFile, commands: &[u8]) -> Result<Vec<u8>, AllocError>
+    ensures { IfOk result (λ text. IsAnswer file (lines_of commands.now) text.items) }
+{
+    let mut turn = Turn::open(alloc, file)?;
+    let mut text = opening(alloc, &turn)?;
+    let mut answered = 0;
+    let mut left = commands;
+    while let Some((line, after)) = first_line(left) {
+        let reply = answer_line(alloc, &mut turn, answered, line)?;
+        text.extend_from_slice(&reply)?;
+        answered += 1;
+        left = after;
+    }
+    Ok(text)
+}
+
+/// The opening of a turn.
+fn opening(alloc: Global, turn: &Turn) -> Result<Vec<u8>, AllocError>
+    ensures text { IfOk result (λ text. text.items ≡ opening_text turn.now.file (next_line (phase_of turn.now.file turn.now.moves) turn.now.offered)) }
+    ensures offer { IfOk result (λ _. IsOffer turn.now.file turn.now.moves turn.now.offered) }
+{
+    let next = turn.next(alloc)?;
+    let text = opening_text(alloc, turn.file(), &next)?;
+    Ok(text)
+}
+
+/// The reply to a line, where so many commands were `answered` before.
+fn answer_line(
+    alloc: Global,
+    turn: &mut Turn,
+    answered: u64,
+    line: &[u8],
+) -> Result<Vec<u8>, AllocError>
+    ensures reply { IfOk result (λ text. IsReplyTo turn.old turn.new answered line.now text.items) }
+    ensures file { turn.new.file ≡ turn.old.file }
+{
+    let reply = turn.answer(alloc, answered, read_line(line))?;
+    let text = reply_text(alloc, turn.file(), &reply)?;
+    Ok(text)
+}
+
+/// What is written for an input.
+#[derive(Drop)]
+enum Output {
+    Answer(Vec<u8>),
+    Refusal(Vec<u8>),
+}
+
+/// What is written for an input: its answer text, or the line of its head's first fault.
+fn output_of(alloc: Global, input: &[u8]) -> Result<Output, AllocError>
+    ensures { IfOk result (λ output. IsOutputOf input.now output) }
+{
+    let (head, commands) = split_input(input);
+    match read_file(alloc, head) {
+        Ok(file) => {
+            let text = answer_text(alloc, file, commands)?;
+            Ok(Output::Answer(text))
+        }
+        Err(fault) => {
+            let line = refusal_line(alloc, &fault)?;
+            Ok(Output::Refusal(line))
+        }
+    }
+}
+
+/// The line of a fault, or want of memory where that is the fault.
+fn refusal_line(alloc: Global, fault: &FileFault) -> Result<Vec<u8>, AllocError>
+    ensures line { IfOk result (λ line. line.items ≡ fault_line fault.now) }
+    ensures fault { OnOk result (fault.now ≢ FileFault.NoMemory) }
+{
+    if let FileFault::NoMemory = fault {
+        return Err(AllocError);
+    }
+    let line = fault_line(alloc, fault)?;
+    Ok(line)
+}
+
+/// Reads an input to its end and writes its answer text, or the line of its head's first fault;
+/// where the words are not `follow` alone it writes the usage line and reads nothing. The order
+/// of the causes is Usage, ReadFault, TooLong, FileRefused.
+pub fn follow<S: Source, K: Sink>(
+    alloc: Global,
+    words: &[String],
+    src: &mut S,
+    out: &mut K,
+) -> Status
+    // The sink gained exactly the answer text of the source's bytes, and the source is at its end.
+    ensures ok { result ≡ Status.Ok → GainsAnswer (S.left src.old) (K.wrote out.old) (K.wrote out.new) }
+    ensures ok_end { result ≡ Status.Ok → IsAtEnd (S.left src.new) }
+    ensures ok_fits { result ≡ Status.Ok → FitsLimit (S.left src.old) }
+    ensures ok_quiet { result ≡ Status.Ok → (S.faults src.new ≡ S.faults src.old) × (K.faults out.new ≡ K.faults out.old) }
+    // Usage exactly by the words.
+    ensures usage { result ≡ Status.Usage → IsFollow (words_of words.now) → ⊥ }
+    ensures usage_line { result ≡ Status.Usage → Appends (K.wrote out.old) (K.wrote out.new) usage_line }
+    ensures usage_quiet { result ≡ Status.Usage → (S.left src.new ≡ S.left src.old) × (S.faults src.new ≡ S.faults src.old) × (K.faults out.new ≡ K.faults out.old) }
+    ensures no_form { (IsFollow (words_of words.now) → ⊥) → (result ≡ Status.Usage) ⊎ (result ≡ Status.WriteFault) }
+    // A head without a file, whose source was read to its end.
+    ensures refused { result ≡ Status.FileRefused → GainsRefusal (S.left src.old) (K.wrote out.old) (K.wrote out.new) }
+    ensures refused_end { result ≡ Status.FileRefused → IsAtEnd (S.left src.new) }
+    ensures refused_fits { result ≡ Status.FileRefused → FitsLimit (S.left src.old) }
+    ensures refused_quiet { result ≡ Status.FileRefused → (S.faults src.new ≡ S.faults src.old) × (K.faults out.new ≡ K.faults out.old) }
+    // A fault only where that object's count rose in this call.
+    ensures read { result ≡ Status.ReadFault → Rose (S.faults src.old) (S.faults src.new) }
+    ensures read_none { result ≡ Status.ReadFault → Keeps (K.wrote out.old) (K.wrote out.new) }
+    ensures write { result ≡ Status.WriteFault → Rose (K.faults out.old) (K.faults out.new) }
+    ensures write_part { result ≡ Status.WriteFault → IsFollow (words_of words.now) → GainsPart (S.left src.old) (K.wrote out.old) (K.wrote out.new) }
+    ensures write_usage { result ≡ Status.WriteFault → (IsFollow (words_of words.now) → ⊥) → AppendsSome (K.wrote out.old) (K.wrote out.new) usage_line }
+    // Too long exactly by the number of bytes, where no read failed.
+    ensures too_long { result ≡ Status.TooLong → PassesLimit (S.left src.old) }
+    ensures too_long_quiet { result ≡ Status.TooLong → S.faults src.new ≡ S.faults src.old }
+    ensures too_long_none { result ≡ Status.TooLong → Keeps (K.wrote out.old) (K.wrote out.new) }
+    ensures no_memory_none { result ≡ Status.NoMemory → Keeps (K.wrote out.old) (K.wrote out.new) }
+    // The words, a draw file, no fault and at most the limit of bytes: the answer, or no memory.
+    ensures complete { IsFollow (words_of words.now) → HoldsFile (S.left src.old)
+        → (Rose (S.faults src.old) (S.faults src.new) → ⊥) → (Rose (K.faults out.old) (K.faults out.new) → ⊥)
+        → (result ≡ Status.Ok) ⊎ (result ≡ Status.NoMemory) }
+{
+    if !is_follow(words) {
+        return match put_all(out, USAGE) {
+            Ok(()) => Status::Usage,
+            Err(_) => Status::WriteFault,
+        };
+    }
+    let input = match read_all(alloc, src, INPUT_LIMIT) {
+        Ok(input) => input,
+        Err(PortFault::Read) => return Status::ReadFault,
+        Err(PortFault::TooLong { limit: _ }) => return Status::TooLong,
+        Err(_) => return Status::NoMemory,
+    };
+    match output_of(alloc, &input) {
+        Ok(Output::Answer(text)) => match put_all(out, &text) {
+            Ok(()) => Status::Ok,
+            Err(_) => Status::WriteFault,
+        },
+        Ok(Output::Refusal(line)) => match put_all(out, &line) {
+            Ok(()) => Status::FileRefused,
+            Err(_) => Status::WriteFault,
+        },
+        Err(_) => Status::NoMemory,
+    }
+}

@@ -1,0 +1,18 @@
+/// How a top call ended. The number of each is the program's exit status.
+#[derive(Clone, Copy, Debug, PartialEq, Eq)]
+pub enum Status {
+    /// 0: the source was read to its end, and the whole answer was written.
+    Ok,
+    /// 1: the words have not the form of a command; the usage line was written.
+    Usage,
+    /// 2: the input has no draw file; the line of its first fault was written.
+    FileRefused,
+    /// 3: the source failed.
+    ReadFault,
+    /// 4: the sink failed.
+    WriteFault,
+    /// 5: no memory was left.
+    NoMemory,
+    /// 6: the source held more bytes than are taken.
+    TooLong,
+}

@@ -1,0 +1,27 @@
+ghost use Rattle.std.specs.Prelude.{◌≡◌, true, false, IfOk};
+ghost use Rattle.draw_tables.specs.Offers.{IsCompletable};
+
+use crate::grid::{all_name_runners, grid_of};
+use crate::search::can_finish;
+use draw_tables::{Move, teams_of_pot};
+use rule_sets::DrawFile;
+use std::alloc::{AllocError, Global};
+
+/// Whether some legal table extends the moves.
+pub(crate) fn is_completable(
+    alloc: Global,
+    file: &DrawFile,
+    moves: &[Move],
+) -> Result<bool, AllocError>
+    ensures yes { IfOk result (λ b. b ≡ true → IsCompletable file.now moves.now) }
+    ensures no { IfOk result (λ b. b ≡ false → IsCompletable file.now moves.now → ⊥) }
+{
+    let winners = teams_of_pot(alloc, file, 1)?;
+    let runners = teams_of_pot(alloc, file, 2)?;
+    if !all_name_runners(&runners, moves) {
+        return Ok(false);
+    }
+    let rows = grid_of(alloc, file, moves, &runners, &winners)?;
+    let mut taken = vec![in alloc; false; winners.len()]?;
+    Ok(can_finish(&rows, &mut taken))
+}

@@ -1,0 +1,55 @@
+ghost use Rattle.std.specs.Prelude.{◌≡◌, ◌≢◌, ◌≤◌, length, Ok, Err, IfOk, IfErr};
+ghost use Rattle.team_files.specs.Answers.{Gives};
+ghost use Rattle.team_files.specs.Heads.{IsReadHead};
+ghost use Rattle.rule_sets.specs.Files.{file_of, team_named, pair_of, pairs_from};
+
+use crate::draw_file::DrawFile;
+use crate::pair::Pair;
+use std::alloc::Global;
+use team_files::{Code, FileFault, Head, HeadPair, TeamId, Teams};
+
+/// The draw file of a head, or its first fault: `BadPair`, or want of memory.
+pub fn rules_from(alloc: Global, head: Head) -> Result<DrawFile, FileFault>
+    requires { IsReadHead head }
+    ensures { Gives result (file_of head) }
+{
+    let pairs = pairs_of(alloc, &head.teams, head.pairs.as_slice())?;
+    Ok(DrawFile::new(head.kind, head.groups, head.pots, head.teams, pairs))
+}
+
+/// The pairs that a head names, or the first that is none.
+fn pairs_of(alloc: Global, teams: &Teams, pairs: &[HeadPair]) -> Result<Vec<Pair>, FileFault>
+    requires few { length pairs.now ≤ 64 }
+    ensures ok { IfOk result (λ v. pairs_from teams.now 0 pairs.now ≡ Ok v.items) }
+    ensures fault { IfErr result (λ f. f ≢ FileFault.NoMemory → pairs_from teams.now 0 pairs.now ≡ Err f) }
+{
+    let mut found = Vec::new(alloc);
+    for (place, pair) in pairs.iter().enumerate() {
+        let pair = pair_of(teams, place as u32, pair)?;
+        if found.push(pair).is_err() {
+            return Err(FileFault::NoMemory);
+        }
+    }
+    Ok(found)
+}
+
+/// The team that a text names.
+fn team_named(teams: &Teams, text: &[u8]) -> Option<TeamId>
+    ensures { result ≡ team_named teams.now text.now }
+{
+    let code = Code::read(text)?;
+    teams.find(code)
+}
+
+/// The pair at a place, where it names two different teams.
+fn pair_of(teams: &Teams, place: u32, pair: &HeadPair) -> Result<Pair, FileFault>
+    ensures { result ≡ pair_of teams.now place pair.now }
+{
+    match (
+        team_named(teams, pair.first.bytes()),
+        team_named(teams, pair.second.bytes()),
+    ) {
+        (Some(first), Some(second)) if first != second => Ok(Pair { first, second }),
+        _ => Err(FileFault::BadPair { place }),
+    }
+}

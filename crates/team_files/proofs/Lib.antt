@@ -1,0 +1,3 @@
+pub mod Alphabet
+pub mod Distinct
+pub mod Elements

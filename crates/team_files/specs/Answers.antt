@@ -1,0 +1,23 @@
+-- What a step of reading says: a value, or the fault that stands before it.
+use Rattle.std.specs.Prelude.{◌≡◌, ◌≢◌, Option, Some, None, Result, Ok, Err}
+use Rattle.team_files.specs.declared.fault.FileFault.{FileFault}
+
+-- the first step's fault, else what the second makes of its value
+abbrev pub after : {A B : Type 0} → Result A FileFault → (A → Result B FileFault) → Result B FileFault
+after (Ok a) next = next a
+after (Err fault) next = Err fault
+
+-- the fault where there is one, else the rest
+abbrev pub unless : {A : Type 0} → Option FileFault → Result A FileFault → Result A FileFault
+unless (Some fault) rest = Err fault
+unless None rest = rest
+
+-- the call answers what is said, but for want of memory
+abbrev pub Gives : {A : Type 0} → Result A FileFault → Result A FileFault → Type 0
+Gives (Ok a) said = said ≡ Ok a
+Gives (Err fault) said = fault ≢ FileFault.NoMemory → said ≡ Err fault
+
+-- the call passes where there is no fault and answers the fault that there is, but for want of memory
+abbrev pub Passes : {A : Type 0} → Result A FileFault → Option FileFault → Type 0
+Passes (Ok a) said = said ≡ None
+Passes (Err fault) said = fault ≢ FileFault.NoMemory → said ≡ Some fault

@@ -1,0 +1,23 @@
+-- The alphabets of codes, tags and letters (this project's own).
+use Rattle.std.specs.Prelude.{ℕ, Bool, ◌==◌, ◌&&◌, ◌||◌, nat_le, List, length}
+use Rattle.std.specs.List.{list_all}
+
+-- a capital letter, A to Z
+abbrev pub is_capital : ℕ → Bool
+is_capital b = nat_le 65 b && nat_le b 90
+
+-- a digit, 0 to 9
+abbrev pub is_digit : ℕ → Bool
+is_digit b = nat_le 48 b && nat_le b 57
+
+-- a character of a code or a tag
+abbrev pub is_code_character : ℕ → Bool
+is_code_character b = is_capital b || is_digit b
+
+-- a code is three characters A to Z or 0 to 9
+abbrev pub is_code : List ℕ → Bool
+is_code bytes = (length bytes == 3) && list_all is_code_character bytes
+
+-- a tag is 1 to 16 characters A to Z or 0 to 9
+abbrev pub is_tag : List ℕ → Bool
+is_tag bytes = (nat_le 1 (length bytes) && nat_le (length bytes) 16) && list_all is_code_character bytes

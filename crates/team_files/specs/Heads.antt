@@ -1,0 +1,201 @@
+-- The head of a draw file, or its first fault (this project's own form of a draw file).
+use Rattle.std.specs.Prelude.{◌≡◌, ℕ, ◌+◌, ◌==◌, ◌&&◌, ◌||◌, not, nat_le, nat_lt, bytes_eq, codes, if◌then◌else◌, List, [], ◌∷◌, ◌++◌, length, Bool, Option, Some, None, option_map, option_and_then, is_some, Result, Ok, Err, ok_or, count_by, IsUtf8, ◌⊎◌}
+use Rattle.std.specs.List.{list_all}
+use Rattle.std.specs.Option.{option_or}
+use Rattle.serde_json.specs.Data.{Data}
+use Rattle.serde_json.specs.Read.{read}
+use Rattle.serde_json.specs.Find.{as_str}
+use Rattle.team_files.specs.declared.kind.Kind.{Kind}
+use Rattle.team_files.specs.declared.fault.Field.{Field}
+use Rattle.team_files.specs.declared.fault.FileFault.{FileFault}
+use Rattle.team_files.specs.declared.team.Team.{Team}
+use Rattle.team_files.specs.declared.head_pair.HeadPair.{HeadPair}
+use Rattle.team_files.specs.declared.head.Head.{Head}
+use Rattle.team_files.specs.declared.fields.TeamFields.{TeamFields}
+use Rattle.team_files.specs.declared.fields.HeadFields.{HeadFields}
+use Rattle.team_files.specs.Characters.{is_code}
+use Rattle.team_files.specs.Teams.{find_from}
+use Rattle.team_files.specs.Answers.{after, unless}
+use Rattle.team_files.specs.Members.{lacks, is_object, list_of, text_in, list_in, number_in, where_true, letter_of, tags_in}
+
+-- ---- 1 NotJson
+
+-- The bytes are read as one JSON value.
+pub record IsJson (bytes : List ℕ) (d : Data) : Type 0 where
+  pub utf8 : IsUtf8 bytes
+  pub value : read bytes ≡ Some d
+
+-- The bytes are not read as one JSON value.
+abbrev pub IsNotJson : List ℕ → Type 0
+IsNotJson bytes = IsUtf8 bytes → read bytes ≡ None
+
+-- ---- 2 NotObject
+
+abbrev pub object_fault : Data → Option FileFault
+object_fault d = if is_object d then None else Some FileFault.NotObject
+
+-- ---- the kind, told before all that follows; 14 for the kinds that are not built
+
+abbrev pub fault_of_kind : List ℕ → Option FileFault
+fault_of_kind text =
+    if bytes_eq text (codes "pairing") then None else (
+    if bytes_eq text (codes "group") || bytes_eq text (codes "league") then Some FileFault.KindNotBuilt
+    else Some (FileFault.KindUnknown text))
+
+abbrev pub fault_of_kind_text : Option (List ℕ) → Option FileFault
+fault_of_kind_text None = Some (FileFault.FieldWrong Field.Kind)
+fault_of_kind_text (Some text) = fault_of_kind text
+
+abbrev pub kind_fault : Data → Option FileFault
+kind_fault d = if lacks (codes "kind") d then Some (FileFault.FieldMissing Field.Kind) else fault_of_kind_text (text_in (codes "kind") d)
+
+-- ---- 4 FieldMissing: the first needed member that is absent
+
+abbrev pub missing_if : Bool → Field → Option FileFault
+missing_if absent field = if absent then Some (FileFault.FieldMissing field) else None
+
+-- in one element of `teams`; one that is no object lacks nothing
+abbrev pub missing_in_team : Data → Option FileFault
+missing_in_team d = if not (is_object d) then None else
+    option_or (missing_if (lacks (codes "code") d) Field.Code)
+    (option_or (missing_if (lacks (codes "pot") d) Field.Pot)
+    (option_or (missing_if (lacks (codes "tags") d) Field.Tags)
+    (missing_if (lacks (codes "group") d) Field.Group)))
+
+abbrev pub missing_in_teams : List Data → Option FileFault
+missing_in_teams [] = None
+missing_in_teams (d ∷ ds) = option_or (missing_in_team d) (missing_in_teams ds)
+
+abbrev pub missing_in_list : Option (List Data) → Option FileFault
+missing_in_list None = None
+missing_in_list (Some ds) = missing_in_teams ds
+
+abbrev pub missing_fault : Data → Option FileFault
+missing_fault d = option_or (missing_if (lacks (codes "teams") d) Field.Teams) (missing_in_list (list_in (codes "teams") d))
+
+-- ---- 5 FieldWrong: the fields, or the first member of another form or range
+
+abbrev pub or_wrong : {A : Type 0} → Option A → Field → Result A FileFault
+or_wrong value field = ok_or value (FileFault.FieldWrong field)
+
+-- a name is a text or absent
+abbrev pub name_in : Data → Option (Option (List ℕ))
+name_in d = if lacks (codes "name") d then Some None else option_map (λ text. Some text) (text_in (codes "name") d)
+
+-- a pairing has two pots, the winners and the runners-up
+abbrev pub pot_in : Data → Option ℕ
+pot_in d = option_and_then (λ n. where_true (nat_le 1 n && nat_le n 2) n) (number_in (codes "pot") d)
+
+abbrev pub team_fields : Data → Result TeamFields FileFault
+team_fields d =
+    after (or_wrong (text_in (codes "code") d) Field.Code) (λ code.
+    after (or_wrong (name_in d) Field.Name) (λ name.
+    after (or_wrong (pot_in d) Field.Pot) (λ pot.
+    after (or_wrong (tags_in (codes "tags") d) Field.Tags) (λ tags.
+    after (or_wrong (option_and_then letter_of (text_in (codes "group") d)) Field.Group) (λ letter.
+    Ok (record { code = code; name = name; pot = pot; tags = tags; group_letter = letter }))))))
+
+abbrev pub all_team_fields : List Data → Result (List TeamFields) FileFault
+all_team_fields [] = Ok []
+all_team_fields (d ∷ ds) = after (team_fields d) (λ team. after (all_team_fields ds) (λ teams. Ok (team ∷ teams)))
+
+-- a list of objects
+abbrev pub objects_in : List ℕ → Data → Option (List Data)
+objects_in name d = option_and_then (λ ds. where_true (list_all is_object ds) ds) (list_in name d)
+
+-- a list of two texts
+abbrev pub pair_of_texts : List Data → Option HeadPair
+pair_of_texts [] = None
+pair_of_texts (a ∷ []) = None
+pair_of_texts (a ∷ b ∷ []) = option_and_then (λ first. option_map (λ second. record { first = first; second = second }) (as_str b)) (as_str a)
+pair_of_texts (a ∷ b ∷ c ∷ ds) = None
+
+abbrev pub pairs_of_texts : List Data → Option (List HeadPair)
+pairs_of_texts [] = Some []
+pairs_of_texts (d ∷ ds) = option_and_then (λ pair. option_map (λ pairs. pair ∷ pairs) (pairs_of_texts ds)) (option_and_then pair_of_texts (list_of d))
+
+-- an absent list is empty
+abbrev pub pairs_in : Data → Option (List HeadPair)
+pairs_in d = if lacks (codes "pairs") d then Some [] else option_and_then pairs_of_texts (list_in (codes "pairs") d)
+
+abbrev pub head_fields : Data → Result HeadFields FileFault
+head_fields d =
+    after (or_wrong (objects_in (codes "teams") d) Field.Teams) (λ objects.
+    after (all_team_fields objects) (λ teams.
+    after (or_wrong (pairs_in d) Field.Pairs) (λ pairs.
+    Ok (record { teams = teams; pairs = pairs }))))
+
+-- ---- 6 TooMany: the first list that is longer than its limit
+
+abbrev pub most_teams : ℕ
+most_teams = 40
+
+abbrev pub most_pairs : ℕ
+most_pairs = 64
+
+abbrev pub too_many_fault : HeadFields → Option FileFault
+too_many_fault fields =
+    if nat_lt most_teams (length fields.teams) then Some (FileFault.TooMany Field.Teams (length fields.teams)) else (
+    if nat_lt most_pairs (length fields.pairs) then Some (FileFault.TooMany Field.Pairs (length fields.pairs)) else None)
+
+-- ---- 7 BadCode: the teams, or the first one whose code is none, counted from i
+
+-- where there is no name, the code stands for it
+abbrev pub name_of : List ℕ → Option (List ℕ) → List ℕ
+name_of code None = code
+name_of code (Some name) = name
+
+abbrev pub team_of : ℕ → TeamFields → Result Team FileFault
+team_of place fields =
+    if is_code fields.code
+    then Ok (record { code = fields.code; name = name_of fields.code fields.name; pot = fields.pot; tags = fields.tags; group_letter = Some fields.group_letter })
+    else Err (FileFault.BadCode place)
+
+abbrev pub teams_from : ℕ → List TeamFields → Result (List Team) FileFault
+teams_from i [] = Ok []
+teams_from i (f ∷ fs) = after (team_of i f) (λ team. after (teams_from (i + 1) fs) (λ teams. Ok (team ∷ teams)))
+
+-- ---- 8 SameCode: the first team whose code an earlier team has
+
+abbrev pub same_code_from : List Team → List Team → Option FileFault
+same_code_from earlier [] = None
+same_code_from earlier (t ∷ ts) = if is_some (find_from t.code earlier 0) then Some (FileFault.SameCode t.code) else same_code_from (earlier ++ t ∷ []) ts
+
+abbrev pub same_code_fault : List Team → Option FileFault
+same_code_fault teams = same_code_from [] teams
+
+-- ---- 9 PotSize: pot 1 is empty, or pot 2 is not of its size
+
+abbrev pub pot_size : ℕ → List Team → ℕ
+pot_size pot teams = count_by (λ t. t.pot == pot) teams
+
+abbrev pub pot_size_fault : List Team → Option FileFault
+pot_size_fault teams =
+    if pot_size 1 teams == 0 then Some (FileFault.PotSize 1 0) else (
+    if pot_size 2 teams == pot_size 1 teams then None else Some (FileFault.PotSize 2 (pot_size 2 teams)))
+
+-- ---- the head, or the first of its faults in the order of their numbers
+
+abbrev pub head_of : Data → Result Head FileFault
+head_of d =
+    unless (object_fault d) (
+    unless (kind_fault d) (
+    unless (missing_fault d) (
+    after (head_fields d) (λ fields.
+    unless (too_many_fault fields) (
+    after (teams_from 0 fields.teams) (λ teams.
+    unless (same_code_fault teams) (
+    unless (pot_size_fault teams) (
+    Ok (record { kind = Kind.Pairing; groups = 0; pots = 2; teams = teams; pairs = fields.pairs })))))))))
+
+-- The head was read of some JSON value, so that none of the faults of a head holds of it.
+abbrev pub IsReadHead : Head → Type 0
+IsReadHead head = (d : Data) × (head_of d ≡ Ok head)
+
+-- The bytes are those of this head.
+abbrev pub IsHead : List ℕ → Head → Type 0
+IsHead bytes head = (d : Data) × IsJson bytes d × (head_of d ≡ Ok head)
+
+-- The bytes are no head, and this is their first fault.
+abbrev pub IsHeadFault : List ℕ → FileFault → Type 0
+IsHeadFault bytes fault = ((fault ≡ FileFault.NotJson) × IsNotJson bytes) ⊎ ((d : Data) × IsJson bytes d × (head_of d ≡ Err fault))

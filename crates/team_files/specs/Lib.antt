@@ -1,0 +1,6 @@
+pub mod Characters
+pub mod Teams
+pub mod Answers
+pub mod Members
+pub mod Heads
+pub mod HeadLaws

@@ -1,0 +1,134 @@
+//! Limits, codes and pot sizes of the members whose forms are right.
+
+ghost use Rattle.std.specs.Prelude.{◌≡◌, ◌<◌, ◌≤◌, ◌≢◌, ◌^◌, ℕ, length, Ok, Err, IfOk, IfErr, OnOk};
+ghost use Rattle.std.specs.Result.{result_err};
+ghost use Rattle.team_files.specs.Answers.{Gives, after, unless};
+ghost use Rattle.team_files.specs.Heads.{too_many_fault, most_teams, team_of, teams_from, same_code_fault, pot_size, pot_size_fault};
+ghost use Rattle.team_files.specs.Teams.{HaveDistinctCodes};
+
+use crate::code::Code;
+use crate::fault::{Field, FileFault};
+use crate::fields::{AllTeamFields, HeadFields, TeamFields};
+use crate::team::Team;
+use crate::teams::{Teams, find_code};
+use std::alloc::Global;
+
+/// The most teams that a head may have.
+pub(crate) const MOST_TEAMS: usize = 40;
+
+/// The most forbidden pairs that a head may have.
+pub(crate) const MOST_PAIRS: usize = 64;
+
+/// Refuses the first list that is longer than its limit.
+pub(crate) fn check_numbers(fields: &HeadFields) -> Result<(), FileFault>
+    ensures fault { result_err result ≡ too_many_fault fields.now }
+    ensures few { OnOk result (length fields.now.teams ≤ most_teams) }
+{
+    let teams = fields.teams.number();
+    if MOST_TEAMS < teams {
+        return Err(FileFault::TooMany {
+            what: Field::Teams,
+            number: teams as u64,
+        });
+    }
+    let pairs = fields.pairs.as_slice().len();
+    if MOST_PAIRS < pairs {
+        return Err(FileFault::TooMany {
+            what: Field::Pairs,
+            number: pairs as u64,
+        });
+    }
+    Ok(())
+}
+
+/// The teams, or the first one whose code is none, or else the first one whose code an earlier team
+/// has.
+pub(crate) fn teams_of(alloc: Global, all: AllTeamFields) -> Result<Teams, FileFault>
+    requires { length all ≤ most_teams }
+    ensures { Gives result (after (teams_from 0 all) (λ teams. unless (same_code_fault teams) (Ok teams))) }
+{
+    let teams = teams_from(alloc, all.into_vec())?;
+    check_codes(&teams)?;
+    Ok(Teams::new(teams))
+}
+
+fn teams_from(alloc: Global, all: Vec<TeamFields>) -> Result<Vec<Team>, FileFault>
+    requires { length all.items ≤ most_teams }
+    ensures ok { IfOk result (λ teams. teams_from 0 all.items ≡ Ok teams.items) }
+    ensures fault { IfErr result (λ fault. fault ≢ FileFault.NoMemory → teams_from 0 all.items ≡ Err fault) }
+    ensures few { IfOk result (λ teams. length teams.items ≤ most_teams) }
+{
+    let mut teams = Vec::new(alloc);
+    for fields in all {
+        let place = teams.len() as u32;
+        teams.push(team_of(place, fields)?)?;
+    }
+    Ok(teams)
+}
+
+/// The team, or that the one at this place has no code.
+fn team_of(place: u32, fields: TeamFields) -> Result<Team, FileFault>
+    ensures { result ≡ team_of place fields }
+{
+    let TeamFields {
+        code: text,
+        name,
+        pot,
+        tags,
+        group_letter,
+    } = fields;
+    let Some(code) = Code::read(text.bytes()) else {
+        return Err(FileFault::BadCode { place });
+    };
+    Ok(Team {
+        code,
+        name: name.unwrap_or(text),
+        pot,
+        tags,
+        group_letter: Some(group_letter),
+    })
+}
+
+/// Refuses the first team whose code an earlier one has.
+fn check_codes(teams: &[Team]) -> Result<(), FileFault>
+    requires { length teams.now ≤ most_teams }
+    ensures fault { result_err result ≡ same_code_fault teams.now }
+    ensures distinct { OnOk result (HaveDistinctCodes teams.now) }
+{
+    for (place, team) in teams.iter().enumerate() {
+        if find_code(&teams[..place], team.code).is_some() {
+            return Err(FileFault::SameCode { code: team.code });
+        }
+    }
+    Ok(())
+}
+
+/// Refuses an empty pot 1, and a pot 2 that is not of its size.
+pub(crate) fn check_pots(teams: &Teams) -> Result<(), FileFault>
+    ensures { result_err result ≡ pot_size_fault teams.now }
+{
+    let winners = pot_size(teams, 1);
+    if winners == 0 {
+        return Err(FileFault::PotSize { pot: 1, number: 0 });
+    }
+    let runners_up = pot_size(teams, 2);
+    if runners_up != winners {
+        return Err(FileFault::PotSize {
+            pot: 2,
+            number: runners_up,
+        });
+    }
+    Ok(())
+}
+
+/// How many teams are in the pot.
+fn pot_size(teams: &Teams, pot: u32) -> u32
+    ensures { result ≡ pot_size pot teams.now }
+{
+    let number = teams
+        .as_slice()
+        .iter()
+        .filter(|team| team.pot == pot)
+        .count();
+    number as u32
+}

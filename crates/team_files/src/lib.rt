@@ -1,0 +1,36 @@
+//! Heads of draw files: teams, codes and tags, or the first fault that a head has.
+#![tactic(auto)]
+
+mod checks;
+mod code;
+mod fault;
+mod fields;
+mod forms;
+mod head;
+mod head_pair;
+mod kind;
+mod members;
+mod missing;
+mod pair_forms;
+mod reading;
+mod tag;
+mod team;
+mod team_forms;
+mod team_id;
+mod teams;
+#[cfg(test)]
+mod tests;
+mod text;
+
+pub use code::Code;
+pub use fault::{Field, FileFault};
+pub use head::Head;
+pub use head_pair::{HeadPair, HeadPairs};
+pub use kind::Kind;
+pub use reading::read_head;
+pub use std::alloc::AllocError as NoMemory;
+pub use tag::{Tag, Tags};
+pub use team::Team;
+pub use team_id::TeamId;
+pub use teams::Teams;
+pub use text::Text;

@@ -1,0 +1,104 @@
+//! Reads a head: one pass a fault, in the order of the faults' numbers.
+
+ghost use Rattle.std.specs.Prelude.{◌≡◌, ◌≢◌, Some, None, IfOk, IfErr, IsUtf8};
+ghost use Rattle.std.specs.Result.{result_err};
+ghost use Rattle.serde_json.specs.View.{view};
+ghost use Rattle.team_files.specs.Answers.{Gives, Passes};
+ghost use Rattle.team_files.specs.Heads.{IsHead, IsHeadFault, IsJson, IsNotJson, object_fault, fault_of_kind, kind_fault, head_of};
+
+use crate::checks::{check_numbers, check_pots, teams_of};
+use crate::fault::{Field, FileFault};
+use crate::forms::head_fields;
+use crate::head::Head;
+use crate::kind::Kind;
+use crate::members::{lacks, text_in};
+use crate::missing::check_members;
+use crate::text::Text;
+use serde_json::Value;
+use std::alloc::Global;
+
+/// Reads the head of a draw file: one JSON object, whose members in other kinds and whose unknown
+/// members are passed over, and of whose repeated members the last counts.
+///
+/// # Errors
+/// The head's first fault. `NotJson` and `NotObject` come first, then what is wrong with `kind`:
+/// `FieldMissing`, `FieldWrong`, `KindUnknown`, or `KindNotBuilt` where it is `group` or `league`.
+/// Then, each over the whole head: the first needed member that is absent, `FieldMissing`; the
+/// first member of another form or range, `FieldWrong`; more than 40 teams or more than 64 pairs,
+/// `TooMany`; the first team without a code, `BadCode`; the first team with an earlier one's code,
+/// `SameCode`; pot 1 empty or pot 2 not of its size, `PotSize`. `NoMemory` can come in place of any
+/// of them.
+pub fn read_head(alloc: Global, bytes: &[u8]) -> Result<Head, FileFault>
+    ensures ok { IfOk result (λ head. IsHead bytes.now head) }
+    ensures fault { IfErr result (λ f. f ≢ FileFault.NoMemory → IsHeadFault bytes.now f) }
+{
+    let value = value_of(alloc, bytes)?;
+    head_of(alloc, &value)
+}
+
+/// The value that the bytes are.
+fn value_of(alloc: Global, bytes: &[u8]) -> Result<Value, FileFault>
+    ensures ok { IfOk result (λ value. IsJson bytes.now (view value)) }
+    ensures fault { IfErr result (λ f. f ≢ FileFault.NoMemory → (f ≡ FileFault.NotJson) × IsNotJson bytes.now) }
+{
+    match Value::from_slice(alloc, bytes) {
+        Ok(value) => Ok(value),
+        Err(error) if error.is_memory() => Err(FileFault::NoMemory),
+        Err(_) => Err(FileFault::NotJson),
+    }
+}
+
+/// The head that a value is, or its first fault.
+fn head_of(alloc: Global, value: &Value) -> Result<Head, FileFault>
+    ensures { Gives result (head_of (view value.now)) }
+{
+    check_object(value)?;
+    check_kind(alloc, value)?;
+    check_members(value)?;
+    let fields = head_fields(alloc, value)?;
+    check_numbers(&fields)?;
+    let teams = teams_of(alloc, fields.teams)?;
+    check_pots(&teams)?;
+    Ok(Head {
+        kind: Kind::Pairing,
+        groups: 0,
+        pots: 2,
+        teams,
+        pairs: fields.pairs,
+    })
+}
+
+fn check_object(value: &Value) -> Result<(), FileFault>
+    ensures { result_err result ≡ object_fault (view value.now) }
+{
+    if !value.is_object() {
+        return Err(FileFault::NotObject);
+    }
+    Ok(())
+}
+
+fn check_kind(alloc: Global, head: &Value) -> Result<(), FileFault>
+    ensures { Passes result (kind_fault (view head.now)) }
+{
+    if lacks(head, "kind") {
+        return Err(FileFault::FieldMissing { name: Field::Kind });
+    }
+    match text_in(head, "kind") {
+        Some(kind) => check_kind_text(alloc, kind),
+        None => Err(FileFault::FieldWrong { name: Field::Kind }),
+    }
+}
+
+/// Passes a pairing, the one kind that is built.
+fn check_kind_text(alloc: Global, kind: &str) -> Result<(), FileFault>
+    ensures { Passes result (fault_of_kind kind.now) }
+{
+    if kind == "pairing" {
+        return Ok(());
+    }
+    if kind == "group" || kind == "league" {
+        return Err(FileFault::KindNotBuilt);
+    }
+    let text = Text::copy(alloc, kind)?;
+    Err(FileFault::KindUnknown { text })
+}

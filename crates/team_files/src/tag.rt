@@ -1,0 +1,86 @@
+ghost use Rattle.std.specs.Prelude.{◌≡◌, true, string_bytes, IfOk};
+ghost use Rattle.team_files.specs.Characters.{is_tag};
+
+use crate::code::are_code_characters;
+use std::alloc::{AllocError, Global};
+use std::marker::Model;
+
+/// A tag: a text of 1 to 16 characters A to Z or 0 to 9. Contracts see its bytes.
+#[derive(Drop)]
+pub struct Tag {
+    text: String,
+}
+
+impl Model for Tag {
+    ghost use Rattle.std.specs.Prelude.{◌≡◌, List, ℕ, true, string_bytes};
+    ghost use Rattle.team_files.specs.Characters.{is_tag};
+
+    ghost Value = { List ℕ };
+
+    ghost view = { λ t. string_bytes t.text };
+
+    ghost invariant = { λ t. is_tag (string_bytes t.text) ≡ true };
+}
+
+impl Tag {
+    /// The tag of a string. Takes no memory.
+    pub fn new(text: String) -> Tag
+        requires { is_tag (string_bytes text) ≡ true }
+        ensures { result ≡ string_bytes text }
+    {
+        Tag { text }
+    }
+
+    /// A tag of its own, or want of memory.
+    pub(crate) fn copy(alloc: Global, text: &str) -> Result<Tag, AllocError>
+        requires { is_tag text.now ≡ true }
+        ensures { IfOk result (λ tag. tag ≡ text.now) }
+    {
+        Ok(Tag::new(String::from_str(alloc, text)?))
+    }
+
+    /// Its bytes.
+    pub fn bytes(&self) -> &[u8]
+        ensures bytes { result.now ≡ self.now }
+        ensures form { is_tag result.now ≡ true }
+    {
+        self.text.as_bytes()
+    }
+}
+
+/// Tags in the order of the file.
+#[derive(Drop)]
+pub struct Tags {
+    tags: Vec<Tag>,
+}
+
+impl Model for Tags {
+    ghost use Rattle.std.specs.Prelude.{List, ℕ};
+
+    ghost Value = { List (List ℕ) };
+
+    ghost view = { λ t. t.tags.items };
+}
+
+impl Tags {
+    /// The tags of a vector. Takes no memory.
+    pub fn new(tags: Vec<Tag>) -> Tags
+        ensures { result ≡ tags.items }
+    {
+        Tags { tags }
+    }
+
+    /// The tags in order.
+    pub fn as_slice(&self) -> &[Tag]
+        ensures { result.now ≡ self.now }
+    {
+        self.tags.as_slice()
+    }
+}
+
+/// Whether the bytes are a tag.
+pub(crate) fn is_tag(bytes: &[u8]) -> bool
+    ensures { result ≡ is_tag bytes.now }
+{
+    1 <= bytes.len() && bytes.len() <= 16 && are_code_characters(bytes)
+}

@@ -1,0 +1,16 @@
+use crate::code::Code;
+use crate::tag::Tags;
+use crate::text::Text;
+
+/// A team as its file has it. `pot` counts from 1; in a pairing pot 1 are the winners and pot 2 the
+/// runners-up. There are one or two different tags. `group_letter` is the byte of the letter, A to
+/// Z, of its first-round group, in a pairing alone. Where the file gives no name, the code stands
+/// for it.
+#[derive(Drop)]
+pub struct Team {
+    pub code: Code,
+    pub name: Text,
+    pub pot: u32,
+    pub tags: Tags,
+    pub group_letter: Option<u8>,
+}

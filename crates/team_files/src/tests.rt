@@ -1,0 +1,187 @@
+use crate::{Code, FileFault, Kind, TeamId, read_head};
+use std::alloc::{AllocError, Global};
+use std::process::Abort;
+use std::test::Fail;
+
+const FIRST: &str = r#"{"code":"AAA","pot":1,"tags":["X"],"group":"A"}"#;
+
+const SECOND: &str = r#"{"code":"BBB","pot":2,"tags":["Y"],"group":"B"}"#;
+
+/// Heads, each behind its first fault.
+const HEADS: &str = r#"
+NotJson: {"kind":"pairing"
+NotObject: []
+KindUnknown cup: {"kind":"cup"}
+KindUnknown cup: {"kind":"pairing","kind":"cup"}
+FieldMissing Kind: {}
+FieldWrong Kind: {"kind":7}
+KindNotBuilt: {"kind":"group"}
+KindNotBuilt: {"kind":"league"}
+FieldMissing Teams: {"kind":"pairing"}
+FieldMissing Teams: {"kind":"cup","kind":"pairing"}
+FieldWrong Teams: {"kind":"pairing","teams":7}
+FieldWrong Teams: {"kind":"pairing","teams":null}
+FieldWrong Teams: {"kind":"pairing","teams":[7]}
+PotSize 1 0: {"kind":"pairing","teams":[]}
+"#;
+
+/// Second teams of a head of two, each behind the head's first fault.
+const TEAMS: &str = r#"
+FieldWrong Teams: 7
+FieldMissing Code: {"pot":9}
+FieldMissing Pot: {"code":7,"tags":[],"group":"B"}
+FieldMissing Tags: {"code":"BBB","pot":9,"group":"B"}
+FieldMissing Group: {"code":7,"pot":2,"tags":["Y"]}
+FieldWrong Code: {"code":7,"name":7,"pot":9,"tags":["Y"],"group":"B"}
+FieldWrong Name: {"code":"BBB","name":7,"pot":9,"tags":["Y"],"group":"B"}
+FieldWrong Pot: {"code":"BBB","pot":3,"tags":[],"group":"B"}
+FieldWrong Pot: {"code":"BBB","pot":0,"tags":["Y"],"group":"B"}
+FieldWrong Pot: {"code":"BBB","pot":"1","tags":["Y"],"group":"B"}
+FieldWrong Pot: {"code":"BBB","pot":2.0,"tags":["Y"],"group":"B"}
+FieldWrong Pot: {"code":"BBB","pot":-1,"tags":["Y"],"group":"B"}
+FieldWrong Tags: {"code":"BBB","pot":2,"tags":[],"group":7}
+FieldWrong Tags: {"code":"BBB","pot":2,"tags":["X","Y","Z"],"group":"B"}
+FieldWrong Tags: {"code":"BBB","pot":2,"tags":["Y","Y"],"group":"B"}
+FieldWrong Tags: {"code":"BBB","pot":2,"tags":["y"],"group":"B"}
+FieldWrong Tags: {"code":"BBB","pot":2,"tags":["ABCDEFGHIJKLMNOPQ"],"group":"B"}
+none: {"code":"BBB","pot":2,"tags":["ABCDEFGHIJKLMNOP"],"group":"B"}
+FieldWrong Group: {"code":"BBB","pot":2,"tags":["Y"],"group":"AB"}
+FieldWrong Group: {"code":"BBB","pot":2,"tags":["Y"],"group":"a"}
+FieldWrong Group: {"code":"BBB","pot":2,"tags":["Y"],"group":null}
+BadCode 1: {"code":"bbb","pot":2,"tags":["Y"],"group":"B"}
+SameCode AAA: {"code":"AAA","pot":1,"tags":["Y"],"group":"B"}
+PotSize 2 0: {"code":"BBB","pot":1,"tags":["Y"],"group":"B"}
+"#;
+
+/// Forbidden pairs of a head of two teams, each behind the head's first fault.
+const PAIRS: &str = r#"
+FieldWrong Pairs: 7
+FieldWrong Pairs: [7]
+FieldWrong Pairs: [["AAA"]]
+FieldWrong Pairs: [["AAA",7]]
+FieldWrong Pairs: [["AAA","BBB","CCC"]]
+none: []
+"#;
+
+/// A head's first fault in short, or `none`.
+fn told(alloc: Global, head: &str) -> Result<String, AllocError> {
+    let Err(fault) = read_head(alloc, head.as_bytes()) else {
+        return String::from_str(alloc, "none");
+    };
+    match fault {
+        FileFault::KindUnknown { text } => match std::str::from_utf8(text.bytes()) {
+            Ok(text) => format!(in alloc; "KindUnknown {text}"),
+            Err(_) => String::from_str(alloc, "KindUnknown"),
+        },
+        FileFault::FieldMissing { name } => format!(in alloc; "FieldMissing {name:?}"),
+        FileFault::FieldWrong { name } => format!(in alloc; "FieldWrong {name:?}"),
+        FileFault::TooMany { what, number } => format!(in alloc; "TooMany {what:?} {number}"),
+        FileFault::BadCode { place } => format!(in alloc; "BadCode {place}"),
+        FileFault::SameCode { code } => format!(in alloc; "SameCode {}", code.text()),
+        FileFault::PotSize { pot, number } => format!(in alloc; "PotSize {pot} {number}"),
+        other => format!(in alloc; "{other:?}"),
+    }
+}
+
+/// Each line of the table has a fault, and a text that stands in the head between the two others.
+fn expect_table(
+    rt: &impl Abort,
+    alloc: Global,
+    table: &str,
+    head: (&str, &str),
+) -> Result<(), Fail> {
+    for line in table.lines() {
+        if let Some((fault, text)) = line.split_once(": ") {
+            let head = format!(in alloc; "{}{text}{}", head.0, head.1)?;
+            let said = told(alloc, head.as_str())?;
+            assert!(rt; said.as_str() == fault, "{head}: {said}");
+        }
+    }
+    Ok(())
+}
+
+#[test]
+fn heads_are_refused(rt: HostRuntime) -> Result<(), Fail> {
+    let alloc = rt.alloc();
+    assert!(rt; told(alloc, "")?.as_str() == "NotJson");
+    expect_table(&rt, alloc, HEADS, ("", ""))?;
+    let start = format!(in alloc; r#"{{"kind":"pairing","teams":[{FIRST},"#)?;
+    expect_table(&rt, alloc, TEAMS, (start.as_str(), "]}"))?;
+    let start = format!(in alloc; "{}{SECOND}],\"pairs\":", start.as_str())?;
+    expect_table(&rt, alloc, PAIRS, (start.as_str(), "}"))
+}
+
+/// The part so many times, with commas between, in brackets.
+fn repeated(alloc: Global, part: &str, number: usize) -> Result<String, AllocError> {
+    let mut list = format!(in alloc; "[{part}")?;
+    for _ in 1..number {
+        list.push_str(",")?;
+        list.push_str(part)?;
+    }
+    list.push_str("]")?;
+    Ok(list)
+}
+
+#[test]
+fn lists_have_limits(rt: HostRuntime) -> Result<(), Fail> {
+    let alloc = rt.alloc();
+    for (number, fault) in [(40, "SameCode BBB"), (41, "TooMany Teams 41")] {
+        let teams = repeated(alloc, SECOND, number)?;
+        let head = format!(in alloc; r#"{{"kind":"pairing","teams":{teams}}}"#)?;
+        assert!(rt; told(alloc, head.as_str())?.as_str() == fault);
+    }
+    for (number, fault) in [(64, "none"), (65, "TooMany Pairs 65")] {
+        let pairs = repeated(alloc, r#"["AAA","BBB"]"#, number)?;
+        let head = format!(in alloc;
+            r#"{{"kind":"pairing","teams":[{FIRST},{SECOND}],"pairs":{pairs}}}"#
+        )?;
+        assert!(rt; told(alloc, head.as_str())?.as_str() == fault);
+    }
+    Ok(())
+}
+
+#[test]
+fn a_head_is_read(rt: HostRuntime) -> Result<(), Fail> {
+    let alloc = rt.alloc();
+    let text = format!(in alloc; r#"{{"kind":"pairing","teams":[{FIRST},{SECOND}]}}"#)?;
+    let head = read_head(alloc, text.as_bytes())?;
+    assert_eq!(rt; head.kind, Kind::Pairing);
+    assert_eq!(rt; head.groups, 0);
+    assert_eq!(rt; head.pots, 2);
+    assert!(rt; head.pairs.as_slice().is_empty());
+    assert_eq!(rt; head.teams.number(), 2);
+    for (place, code, pot, tag, letter) in [(0, "AAA", 1, "X", b'A'), (1, "BBB", 2, "Y", b'B')] {
+        let team = head.teams.get(TeamId(place));
+        assert!(rt; team.code.text() == code);
+        assert!(rt; team.name.bytes() == code.as_bytes());
+        assert_eq!(rt; team.pot, pot);
+        assert_eq!(rt; team.tags.as_slice().len(), 1);
+        assert!(rt; team.tags.as_slice()[0].bytes() == tag.as_bytes());
+        assert_eq!(rt; team.group_letter, Some(letter));
+        assert_eq!(rt; head.teams.find(team.code), Some(TeamId(place)));
+    }
+    let other = Code::read("CCC".as_bytes()).ok_or("no code")?;
+    assert_eq!(rt; head.teams.find(other), None);
+    Ok(())
+}
+
+/// Members that no pairing has, a name, pairs, and members that are repeated.
+const RICH: &str =
+    r#"{"kind":"cup","groups":7,"limits":7,"kind":"pairing","pairs":[["AAA","CCC"]],"teams":[
+{"code":"AAA","name":"Ajax","pot":1,"tags":["X","Y"],"group":"C","coach":7},
+{"code":"BBB","pot":1,"pot":2,"tags":["Y"],"group":"B"}]}"#;
+
+#[test]
+fn a_rich_head_is_read(rt: HostRuntime) -> Result<(), Fail> {
+    let head = read_head(rt.alloc(), RICH.as_bytes())?;
+    assert_eq!(rt; head.teams.number(), 2);
+    let first = head.teams.get(TeamId(0));
+    assert!(rt; first.name.bytes() == "Ajax".as_bytes());
+    assert_eq!(rt; first.tags.as_slice().len(), 2);
+    assert!(rt; first.tags.as_slice()[1].bytes() == "Y".as_bytes());
+    assert_eq!(rt; head.teams.get(TeamId(1)).pot, 2);
+    assert_eq!(rt; head.pairs.as_slice().len(), 1);
+    assert!(rt; head.pairs.as_slice()[0].first.bytes() == "AAA".as_bytes());
+    assert!(rt; head.pairs.as_slice()[0].second.bytes() == "CCC".as_bytes());
+    Ok(())
+}
