@@ -1,22 +1,20 @@
 //! The program `draw`: answers the balls of a draw with the choices that may follow.
 #![tactic(auto)]
 
+ghost use Rattle.std.specs.Prelude.{◌≡◌};
+ghost use Rattle.std.specs.Process.{exit_status};
+ghost use Rattle.draw_top.specs.Statuses.{status_number};
+
 use draw_ports::{OpenGate, StdSink, StdSource};
 use draw_top::{Status, run_draw};
 use std::process::ExitCode;
 use std::{env, io};
 
-/// The number of a status, with which the program ends.
-fn exit_code(status: Status) -> ExitCode {
-    match status {
-        Status::Ok => ExitCode::from(0),
-        Status::Usage => ExitCode::from(1),
-        Status::FileRefused => ExitCode::from(2),
-        Status::ReadFault => ExitCode::from(3),
-        Status::WriteFault => ExitCode::from(4),
-        Status::NoMemory => ExitCode::from(5),
-        Status::TooLong => ExitCode::from(6),
-    }
+/// The exit code of a status: its number.
+fn exit_code(status: Status) -> ExitCode
+    ensures { exit_status result ≡ status_number status }
+{
+    ExitCode::from(status.number())
 }
 
 /// Hands the words after the program's name, standard input and standard output to `run_draw`.

@@ -5,3 +5,4 @@ pub mod Follow
 pub mod Outputs
 pub mod Replies
 pub mod Laws
+pub mod Statuses

@@ -1,3 +1,5 @@
+ghost use Rattle.std.specs.Prelude.{◌≡◌};
+
 /// How a top call ended. The number of each is the program's exit status.
 #[derive(Clone, Copy, Debug, PartialEq, Eq)]
 pub enum Status {
@@ -15,4 +17,23 @@ pub enum Status {
     NoMemory,
     /// 6: the source held more bytes than are taken.
     TooLong,
+}
+
+impl Status {
+    ghost use Rattle.draw_top.specs.Statuses.{status_number};
+
+    /// Its number, with which the program ends.
+    pub fn number(self) -> u8
+        ensures { result ≡ status_number self }
+    {
+        match self {
+            Status::Ok => 0,
+            Status::Usage => 1,
+            Status::FileRefused => 2,
+            Status::ReadFault => 3,
+            Status::WriteFault => 4,
+            Status::NoMemory => 5,
+            Status::TooLong => 6,
+        }
+    }
 }
