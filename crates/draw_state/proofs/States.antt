@@ -1,8 +1,7 @@
 -- A command leads from a state to a state.
-use Rattle.std.proofs.Common.{◌≡◌, ℕ, zero, suc, Bool, true, false, not, List, [], ◌∷◌, ◌++◌, Option, Some, None, Result, Ok, Err, slice_get, refl, ap, sym, ◌∙◌, append_assoc, append-nil, eqb-true}
-use Rattle.std.specs.Prelude.{◌==◌, ◌||◌, nat_le, if◌then◌else◌}
+use Rattle.std.proofs.Common.{◌≡◌, ℕ, suc, Bool, true, false, not, List, [], ◌∷◌, ◌++◌, Option, Some, None, Result, Ok, Err, refl, ap, sym, append_assoc, append-nil, eqb-true}
+use Rattle.std.specs.Prelude.{◌||◌, nat_le, if◌then◌else◌}
 use Rattle.team_files.specs.declared.team.Team.{Team}
-use Rattle.team_files.specs.declared.team_id.TeamId.{TeamId}
 use Rattle.rule_sets.specs.Files.{DrawFile}
 use Rattle.draw_tables.specs.declared.moves.Move.{Move}
 use Rattle.draw_tables.specs.declared.moves.Choice.{Choice}
@@ -21,7 +20,8 @@ pub among : (c : Choice) (cs : List Choice) → has_choice c cs ≡ true → IsA
 among c [] e = cc
 among c (d ∷ cs) e = go (λ h. among c cs h) (same_choice c d) refl e
   where
-    go : (has_choice c cs ≡ true → IsAmong cs c) → (b : Bool) → same_choice c d ≡ b → (b || has_choice c cs) ≡ true → IsAmong (d ∷ cs) c
+    go : (has_choice c cs ≡ true → IsAmong cs c)
+        → (b : Bool) → same_choice c d ≡ b → (b || has_choice c cs) ≡ true → IsAmong (d ∷ cs) c
     go later true is h = (0, ap Some (same c d is))
     go later false is h = let found = later h in (suc found.0, found.1)
 
@@ -30,7 +30,10 @@ module _ (teams : List Team) (phase : Phase) (all offered : List Choice) (c : Ch
   choice_is : (d : Choice) → judged_choice phase all offered d ≡ Ok c → IsAmong all c
   choice_is d e = go (is_complete phase) (has_choice d all) (has_choice d offered) refl e
     where
-      go : (b h o : Bool) → has_choice d all ≡ h → (if b then Err Refusal.Complete else (if not h then Err Refusal.Phase else (if not o then Err Refusal.Excluded else Ok d))) ≡ Ok c → IsAmong all c
+      go : (b h o : Bool)
+          → has_choice d all ≡ h
+          → (if b then Err Refusal.Complete else (if not h then Err Refusal.Phase else (if not o then Err Refusal.Excluded else Ok d))) ≡ Ok c
+          → IsAmong all c
       go true h o is f = cc
       go false false o is f = cc
       go false true false is f = cc
@@ -51,7 +54,8 @@ module _ (teams : List Team) (phase : Phase) (all offered : List Choice) (c : Ch
       go true f = cc
       go false f = command_is command f
 
-one_more : (file : DrawFile) (before ms : List Move) (m : Move) → AreMovesAfter file before ms → IsCandidateMove file (before ++ ms) m → AreMovesAfter file before (ms ++ m ∷ [])
+one_more : (file : DrawFile) (before ms : List Move) (m : Move)
+    → AreMovesAfter file before ms → IsCandidateMove file (before ++ ms) m → AreMovesAfter file before (ms ++ m ∷ [])
 one_more file before [] m h next = (rw append-nil at next, tt)
 one_more file before (n ∷ ms) m h next = (h.0, one_more file (before ++ n ∷ []) ms m h.1 (rw append_assoc next))
 
@@ -59,6 +63,8 @@ pub states_stay : StatesStay
 states_stay file ms offered answered command new_ms new_offered reply state step =
     rw step.moves (go (judged file.teams (phase_of file ms) (candidates file ms) offered answered command) refl)
   where
-    go : (r : Result Choice Refusal) → judged file.teams (phase_of file ms) (candidates file ms) offered answered command ≡ r → IsState file (moves_after (phase_of file ms) ms r)
+    go : (r : Result Choice Refusal)
+        → judged file.teams (phase_of file ms) (candidates file ms) offered answered command ≡ r
+        → IsState file (moves_after (phase_of file ms) ms r)
     go (Err refusal) is = state
     go (Ok c) is = one_more file [] ms (move_of (phase_of file ms) c) state (c, accepted_is file.teams (phase_of file ms) (candidates file ms) offered c answered command is, refl)

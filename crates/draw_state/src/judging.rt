@@ -5,11 +5,12 @@ ghost use Rattle.draw_tables.specs.Pots.{IsAmong};
 ghost use Rattle.draw_state.specs.Commands.{choice_of, has_choice, is_complete, judged, next_line};
 ghost use Rattle.draw_state.specs.Runs.{StatesStay};
 
+use crate::NoMemory;
 use crate::commands::{Command, Word};
 use crate::lists::Choices;
 use crate::replies::{NextLine, Refusal};
 use draw_tables::{Choice, Phase};
-use std::alloc::{AllocError, Global};
+use std::alloc::Global;
 use team_files::{TeamId, Teams};
 
 /// How many commands are answered; each later one is refused.
@@ -89,7 +90,7 @@ pub fn next_line(phase: Phase, offered: Choices) -> NextLine
 }
 
 /// The choices that name these teams, in order.
-pub fn choices_of(alloc: Global, teams: &[TeamId]) -> Result<Vec<Choice>, AllocError>
+pub fn choices_of(alloc: Global, teams: &[TeamId]) -> Result<Vec<Choice>, NoMemory>
     ensures { IfOk result (λ choices. choices.items ≡ map (λ t. ChoiceValue.Team t) teams.now) }
 {
     teams.iter().map(|team| Choice::Team(*team)).collect(alloc)

@@ -10,3 +10,4 @@ pub use commands::{Command, Word};
 pub use judging::{choices_of, judge_command, law_states_stay, next_line};
 pub use lists::{Choices, Moves};
 pub use replies::{NextLine, Refusal, Reply};
+pub use std::alloc::AllocError as NoMemory;

@@ -26,7 +26,7 @@ impl Moves {
         Moves { moves }
     }
 
-    /// The moves in order.
+    /// The moves in order. Takes no memory.
     pub fn as_slice(&self) -> &[Move]
         ensures { result.now ≡ self.now }
     {
@@ -57,7 +57,7 @@ impl Choices {
         Choices { choices }
     }
 
-    /// The choices in order.
+    /// The choices in order. Takes no memory.
     pub fn as_slice(&self) -> &[Choice]
         ensures { result.now ≡ self.now }
     {

@@ -1,6 +1,6 @@
 -- One more team is looked at.
-use Rattle.std.proofs.Common.{◌≡◌, ℕ, zero, suc, ◌+◌, ◌<◌, Bool, true, false, List, [], ◌∷◌, ◌++◌, drop, Some, slice_get, arith, refl, append_assoc, ap}
-use Rattle.std.specs.Prelude.{filter, not, ◌==◌}
+use Rattle.std.proofs.Common.{◌≡◌, ℕ, zero, suc, ◌+◌, Bool, true, false, List, [], ◌∷◌, ◌++◌, drop, Some, slice_get, arith, refl, append_assoc}
+use Rattle.std.specs.Prelude.{filter, ◌==◌}
 use Rattle.std.proofs.lemmas.Bool.Decides.{nat_tests}
 use Rattle.team_files.specs.declared.team.Team.{Team}
 use Rattle.team_files.specs.declared.team_id.TeamId.{TeamId}
@@ -24,7 +24,9 @@ module _ (pot i : ℕ) (ts : List Team) (t : Team) (is : slice_get ts i ≡ Some
   pub pot_lacks : (t.pot ≡ pot → ⊥) → pot_from pot i (drop i ts) ≡ pot_from pot (i + 1) (drop (i + 1) ts)
   pot_lacks e = rw (next_team ts i t is, differ t.pot pot e) refl
 
-  pub pot_pushed : (found new whole : List TeamId) → t.pot ≡ pot → new ≡ found ++ record { 0 = i } ∷ [] → found ++ pot_from pot i (drop i ts) ≡ whole → new ++ pot_from pot (i + 1) (drop (i + 1) ts) ≡ whole
+  pub pot_pushed : (found new whole : List TeamId)
+      → t.pot ≡ pot → new ≡ found ++ record { 0 = i } ∷ [] → found ++ pot_from pot i (drop i ts) ≡ whole
+      → new ++ pot_from pot (i + 1) (drop (i + 1) ts) ≡ whole
   pot_pushed found new whole e new_is so_far = rw (new_is, append_assoc) (rw (pot_has e) at so_far)
 
 -- what is kept of one more item

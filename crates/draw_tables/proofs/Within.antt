@@ -1,5 +1,5 @@
 -- The teams of a pot, and the candidates, are teams of the file.
-use Rattle.std.proofs.Common.{◌≡◌, ℕ, suc, ◌+◌, ◌<◌, ◌≤◌, Bool, true, false, List, [], ◌∷◌, length, arith}
+use Rattle.std.proofs.Common.{ℕ, ◌+◌, ◌<◌, ◌≤◌, Bool, true, false, List, [], ◌∷◌, length, arith}
 use Rattle.std.specs.Prelude.{filter, ◌==◌, if◌then◌else◌}
 use Rattle.team_files.specs.declared.team.Team.{Team}
 use Rattle.team_files.specs.declared.team_id.TeamId.{TeamId}
@@ -11,11 +11,13 @@ use Rattle.draw_tables.specs.Pots.{pot_from, AreTeamsOf, winners, runners_up, te
 use Rattle.draw_tables.specs.States.{is_drawn, is_paired, candidate_teams, candidate_teams_in, phase_of}
 use Rattle.std.specs.Prelude.{not}
 
-either : (file : DrawFile) (t : TeamId) (ts : List TeamId) (b : Bool) → t.0 < length file.teams → AreTeamsOf file ts → AreTeamsOf file (if b then t ∷ ts else ts)
+either : (file : DrawFile) (t : TeamId) (ts : List TeamId) (b : Bool)
+    → t.0 < length file.teams → AreTeamsOf file ts → AreTeamsOf file (if b then t ∷ ts else ts)
 either file t ts true lt h = (lt, h)
 either file t ts false lt h = h
 
-pot_within : (file : DrawFile) (pot i : ℕ) (ts : List Team) → i + length ts ≤ length file.teams → AreTeamsOf file (pot_from pot i ts)
+pot_within : (file : DrawFile) (pot i : ℕ) (ts : List Team)
+    → i + length ts ≤ length file.teams → AreTeamsOf file (pot_from pot i ts)
 pot_within file pot i [] le = tt
 pot_within file pot i (t ∷ ts) le = either file (record { 0 = i }) (pot_from pot (i + 1) ts) (t.pot == pot) (omega arith) (pot_within file pot (i + 1) ts (omega arith))
 

@@ -1,5 +1,5 @@
 -- Legal pairing tables (the round of 16 of UEFA's Champions League, 2021/22).
-use Rattle.std.specs.Prelude.{◌≡◌, ℕ, ◌==◌, ◌&&◌, ◌||◌, not, nat_eq, bytes_eq, Bool, true, false, List, length, Option, Some, None, slice_get}
+use Rattle.std.specs.Prelude.{◌≡◌, ℕ, ◌==◌, ◌&&◌, ◌||◌, not, nat_eq, bytes_eq, Bool, false, List, length, Option, Some, None, slice_get}
 use Rattle.std.specs.List.{list_any}
 use Rattle.std.specs.Option.{option_eq}
 use Rattle.team_files.specs.declared.team.Team.{Team}
@@ -37,9 +37,11 @@ pub record IsLegalPairing (file : DrawFile) (table : List TeamId) : Type 0 where
   pub given : (w : TeamId) → IsAmong (winners file) w → IsAmong table w
   pub once : (i j : ℕ) (w : TeamId) → slice_get table i ≡ Some w → slice_get table j ≡ Some w → i ≡ j
   -- 2. no pair comes from one first-round group
-  pub letters : (r w : TeamId) (a b : Team) → GivesOpponent file table r w → IsTeam file r a → IsTeam file w b → have_same_letter a b ≡ false
+  pub letters : (r w : TeamId) (a b : Team)
+      → GivesOpponent file table r w → IsTeam file r a → IsTeam file w b → have_same_letter a b ≡ false
   -- 3. no pair has a common tag
-  pub tags : (r w : TeamId) (a b : Team) → GivesOpponent file table r w → IsTeam file r a → IsTeam file w b → have_common_tag a b ≡ false
+  pub tags : (r w : TeamId) (a b : Team)
+      → GivesOpponent file table r w → IsTeam file r a → IsTeam file w b → have_common_tag a b ≡ false
   -- 4. no pair is forbidden
   pub forbidden : (r w : TeamId) → GivesOpponent file table r w → is_forbidden file r w ≡ false
 
@@ -53,3 +55,9 @@ may_meet_as (Some a) (Some b) = not (have_same_letter a b) && not (have_common_t
 -- rules 2 to 4 for one pair
 abbrev pub may_meet : DrawFile → TeamId → TeamId → Bool
 may_meet file r w = may_meet_as (slice_get file.teams r.0) (slice_get file.teams w.0) && not (is_forbidden file r w)
+
+-- A runner-up and a winner keep rules 2 to 4.
+pub record KeepRules (file : DrawFile) (r w : TeamId) : Type 0 where
+  pub letters : (a b : Team) → IsTeam file r a → IsTeam file w b → have_same_letter a b ≡ false
+  pub tags : (a b : Team) → IsTeam file r a → IsTeam file w b → have_common_tag a b ≡ false
+  pub forbidden : is_forbidden file r w ≡ false

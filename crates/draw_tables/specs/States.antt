@@ -1,5 +1,5 @@
 -- States of a draw: a file and its moves; phases and candidates.
-use Rattle.std.specs.Prelude.{◌≡◌, ℕ, ◌==◌, not, Bool, true, false, if◌then◌else◌, List, [], ◌∷◌, ◌++◌, map, filter, Option, Some, None, option_and_then}
+use Rattle.std.specs.Prelude.{◌≡◌, ◌==◌, not, Bool, false, List, [], ◌∷◌, ◌++◌, map, filter, Option, Some, None, option_and_then}
 use Rattle.std.specs.List.{list_any}
 use Rattle.std.specs.Option.{option_or}
 use Rattle.team_files.specs.declared.team_id.TeamId.{TeamId}
@@ -63,7 +63,7 @@ unpaired file ms = filter (λ w. not (is_paired w ms)) (winners file)
 -- ---- phases and candidates
 
 abbrev pub phase_with : Option TeamId → List TeamId → Phase
-phase_with (Some r) undrawn = Opponent r
+phase_with (Some r) left = Opponent r
 phase_with None [] = Complete
 phase_with None (r ∷ rs) = Runner
 
@@ -84,7 +84,7 @@ candidate_teams file ms = candidate_teams_in file ms (phase_of file ms)
 abbrev pub candidates : DrawFile → List Move → List Choice
 candidates file ms = map (λ t. Team t) (candidate_teams file ms)
 
--- the move that a candidate adds in a phase
+-- the move that a candidate adds in a phase; no candidate stands in Complete, so its case is never a move of a draw
 abbrev pub move_of : Phase → Choice → Move
 move_of Runner (Team t) = Drawn t
 move_of (Opponent r) (Team t) = Paired r t

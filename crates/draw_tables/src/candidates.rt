@@ -2,10 +2,11 @@ ghost use Rattle.std.specs.Prelude.{◌≡◌, ◌≢◌, [], true, false, not, 
 ghost use Rattle.draw_tables.specs.Pots.{AreTeamsOf};
 ghost use Rattle.draw_tables.specs.States.{is_drawn, has_opponent, is_paired, last_drawn, waiting, undrawn, unpaired, phase_of, candidate_teams_in, candidate_teams, move_of};
 
+use crate::NoMemory;
 use crate::moves::{Choice, Move, Phase};
 use crate::pots::teams_of_pot;
 use rule_sets::DrawFile;
-use std::alloc::{AllocError, Global};
+use std::alloc::Global;
 use team_files::TeamId;
 
 /// What comes after the moves: Opponent where the runner-up that was drawn last has no opponent,
@@ -25,7 +26,7 @@ pub fn candidate_teams(
     alloc: Global,
     file: &DrawFile,
     moves: &[Move],
-) -> Result<Vec<TeamId>, AllocError>
+) -> Result<Vec<TeamId>, NoMemory>
     ensures teams { IfOk result (λ teams. teams.items ≡ candidate_teams file.now moves.now) }
     ensures within { IfOk result (λ teams. AreTeamsOf file.now teams.items) }
 {
@@ -39,7 +40,7 @@ fn candidates_in(
     file: &DrawFile,
     moves: &[Move],
     phase: Phase,
-) -> Result<Vec<TeamId>, AllocError>
+) -> Result<Vec<TeamId>, NoMemory>
     ensures { IfOk result (λ teams. teams.items ≡ candidate_teams_in file.now moves.now phase) }
 {
     match phase {
@@ -142,7 +143,7 @@ fn has_undrawn(file: &DrawFile, moves: &[Move]) -> bool
 }
 
 /// The runners-up that were not drawn, in file order.
-fn undrawn(alloc: Global, file: &DrawFile, moves: &[Move]) -> Result<Vec<TeamId>, AllocError>
+fn undrawn(alloc: Global, file: &DrawFile, moves: &[Move]) -> Result<Vec<TeamId>, NoMemory>
     ensures { IfOk result (λ teams. teams.items ≡ undrawn file.now moves.now) }
 {
     let runners = teams_of_pot(alloc, file, 2)?;
@@ -154,7 +155,7 @@ fn undrawn(alloc: Global, file: &DrawFile, moves: &[Move]) -> Result<Vec<TeamId>
 }
 
 /// The winners that are not paired, in file order.
-fn unpaired(alloc: Global, file: &DrawFile, moves: &[Move]) -> Result<Vec<TeamId>, AllocError>
+fn unpaired(alloc: Global, file: &DrawFile, moves: &[Move]) -> Result<Vec<TeamId>, NoMemory>
     ensures { IfOk result (λ teams. teams.items ≡ unpaired file.now moves.now) }
 {
     let winners = teams_of_pot(alloc, file, 1)?;

@@ -10,3 +10,4 @@ pub use candidates::{candidate_teams, move_of, phase_of};
 pub use moves::{Choice, Move, Phase};
 pub use pots::teams_of_pot;
 pub use rules::may_meet;
+pub use std::alloc::AllocError as NoMemory;

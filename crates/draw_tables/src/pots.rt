@@ -1,12 +1,13 @@
 ghost use Rattle.std.specs.Prelude.{◌≡◌, ◌<◌, ◌^◌, length, IfOk};
 ghost use Rattle.draw_tables.specs.Pots.{AreTeamsOf, pot_from, teams_of_pot};
 
+use crate::NoMemory;
 use rule_sets::DrawFile;
-use std::alloc::{AllocError, Global};
+use std::alloc::Global;
 use team_files::{TeamId, Teams};
 
 /// The teams of a pot in file order. `pot` counts from 1.
-pub fn teams_of_pot(alloc: Global, file: &DrawFile, pot: u32) -> Result<Vec<TeamId>, AllocError>
+pub fn teams_of_pot(alloc: Global, file: &DrawFile, pot: u32) -> Result<Vec<TeamId>, NoMemory>
     ensures teams { IfOk result (λ teams. teams.items ≡ teams_of_pot pot file.now) }
     ensures within { IfOk result (λ teams. AreTeamsOf file.now teams.items) }
 {
@@ -15,7 +16,7 @@ pub fn teams_of_pot(alloc: Global, file: &DrawFile, pot: u32) -> Result<Vec<Team
 }
 
 /// The teams of a pot, in order.
-fn members_of(alloc: Global, teams: &Teams, pot: u32) -> Result<Vec<TeamId>, AllocError>
+fn members_of(alloc: Global, teams: &Teams, pot: u32) -> Result<Vec<TeamId>, NoMemory>
     ensures { IfOk result (λ found. found.items ≡ pot_from pot 0 teams.now) }
 {
     let mut found = Vec::new(alloc);

@@ -1,16 +1,18 @@
-ghost use Rattle.std.specs.Prelude.{◌≡◌, ◌<◌, length, bytes_eq};
+ghost use Rattle.std.specs.Prelude.{◌≡◌, ◌<◌, true, length, bytes_eq};
 ghost use Rattle.std.specs.List.{list_any};
-ghost use Rattle.draw_tables.specs.Pairings.{have_common_tag, is_pair_of, may_meet};
+ghost use Rattle.draw_tables.specs.Pairings.{KeepRules, have_common_tag, is_pair_of, may_meet};
 
 use rule_sets::{DrawFile, Pair};
 use team_files::{Tag, Team, TeamId};
 
 /// Whether no rule forbids the runner-up and the winner directly to meet: they come from different
-/// first-round groups, have no tag in common and are no forbidden pair.
+/// first-round groups, have no tag in common and are no forbidden pair. Takes no memory.
 pub fn may_meet(file: &DrawFile, runner: TeamId, winner: TeamId) -> bool
     requires runner { runner.0 < length file.now.teams }
     requires winner { winner.0 < length file.now.teams }
-    ensures { result ≡ may_meet file.now runner winner }
+    ensures value { result ≡ may_meet file.now runner winner }
+    ensures rules { result ≡ true → KeepRules file.now runner winner }
+    ensures nothing_else { KeepRules file.now runner winner → result ≡ true }
 {
     let one = file.teams().get(runner);
     let other = file.teams().get(winner);

@@ -3,19 +3,15 @@ ghost use Rattle.std.specs.Prelude.{◌<◌};
 use crate::laws::{law_answer_exists, law_answer_or_refusal, law_one_answer};
 use crate::run::run_draw;
 use crate::status::Status;
-use draw_lines::{opening_text, read_line, reply_text};
 use draw_ports::{MemorySink, MemorySource, OpenGate};
-use draw_state::{Choices, Refusal, Reply, choices_of, judge_command, law_states_stay, next_line};
-use draw_tables::{
-    Choice, Move, Phase, candidate_teams, may_meet, move_of, phase_of, teams_of_pot,
-};
-use pairing_draw::{law_offer_exists, law_one_offer, plain_offer};
+use draw_state::law_states_stay;
+use pairing_draw::{law_offer_exists, law_one_offer};
 use rule_sets::rules_from;
 use std::alloc::{AllocError, Global};
 use std::sync::Wait;
 use std::test::Fail;
 use std::thread::Threads;
-use team_files::{Code, Kind, TeamId, read_head};
+use team_files::{Kind, read_head};
 
 const ROUND_OF_16: &str =
     r#"{"kind":"pairing","teams":[{"code":"MCI","pot":1,"tags":["ENG"],"group":"A"},{"code":"LIV","pot":1,"tags":["ENG"],"group":"B"},{"code":"AJX","pot":1,"tags":["NED"],"group":"C"},{"code":"RMA","pot":1,"tags":["ESP"],"group":"D"},{"code":"BAY","pot":1,"tags":["GER"],"group":"E"},{"code":"MUN","pot":1,"tags":["ENG"],"group":"F"},{"code":"LIL","pot":1,"tags":["FRA"],"group":"G"},{"code":"JUV","pot":1,"tags":["ITA"],"group":"H"},{"code":"PSG","pot":2,"tags":["FRA"],"group":"A"},{"code":"ATM","pot":2,"tags":["ESP"],"group":"B"},{"code":"SCP","pot":2,"tags":["POR"],"group":"C"},{"code":"INT","pot":2,"tags":["ITA"],"group":"D"},{"code":"BEN","pot":2,"tags":["POR"],"group":"E"},{"code":"VIL","pot":2,"tags":["ESP"],"group":"F"},{"code":"RBS","pot":2,"tags":["AUT"],"group":"G"},{"code":"CHE","pot":2,"tags":["ENG"],"group":"H"}]}"#;
@@ -303,57 +299,25 @@ fn statuses_have_their_causes(rt: HostRuntime) -> Result<(), Fail> {
     Ok(())
 }
 
-/// Each public call of the crates below, on a file of one pair.
+/// What a draw file tells of itself, which no answer text shows.
 #[test]
-fn the_parts_of_a_draw_answer(rt: HostRuntime) -> Result<(), Fail> {
-    let alloc = rt.alloc();
-    let head = read_head(alloc, TWO_TEAMS.as_bytes())?;
-    let file = rules_from(alloc, head)?;
+fn a_file_tells_its_kind(rt: HostRuntime) -> Result<(), Fail> {
+    let head = read_head(rt.alloc(), TWO_TEAMS.as_bytes())?;
+    let file = rules_from(rt.alloc(), head)?;
     assert!(rt; file.kind() == Kind::Pairing);
-    assert_eq!(rt; (file.groups(), file.pots(), file.pairs().len()), (0, 2, 0));
-    let teams = file.teams();
-    assert_eq!(rt; teams.number(), 2);
-    let code = Code::read(b"BBB").ok_or("no code")?;
-    let (winner, runner) = (TeamId(0), TeamId(1));
-    assert!(rt; teams.find(code) == Some(runner));
-    let team = teams.get(runner);
-    assert_eq!(rt; team.code.text(), "BBB");
-    assert_eq!(rt; team.name.bytes(), b"BBB".as_slice());
-    assert_eq!(rt; (team.pot, team.group_letter), (2, Some(b'B')));
-    assert_eq!(rt; team.tags.as_slice().len(), 1);
-    assert!(rt; may_meet(&file, runner, winner));
-    assert!(rt; teams_of_pot(alloc, &file, 2)?.as_slice() == [runner].as_slice());
-    assert!(rt; candidate_teams(alloc, &file, &[])?.as_slice() == [runner].as_slice());
-    assert!(rt; plain_offer(alloc, &file, &[])?.as_slice() == [runner].as_slice());
-    assert!(rt; phase_of(&file, &[]) == Phase::Runner);
-    assert!(rt; move_of(Phase::Runner, Choice::Team(runner)) == Move::Drawn(runner));
+    assert_eq!(rt; file.groups(), 0);
+    assert_eq!(rt; file.pots(), 2);
     Ok(())
 }
 
-/// Commands, replies and their texts, and the laws, on a file of one pair.
+/// The laws are calls that do nothing; a status has its number.
 #[test]
-fn the_parts_of_a_reply_answer(rt: HostRuntime) -> Result<(), Fail> {
-    let alloc = rt.alloc();
-    let head = read_head(alloc, TWO_TEAMS.as_bytes())?;
-    let file = rules_from(alloc, head)?;
-    let command = read_line(b"ball BBB");
-    let choices = choices_of(alloc, &[TeamId(1)])?;
-    let judged = judge_command(file.teams(), Phase::Runner, &choices, &choices, 0, command);
-    assert!(rt; judged == Ok(Choice::Team(TeamId(1))));
-    let next = next_line(Phase::Complete, Choices::new(choices));
-    let opening = opening_text(alloc, &file, &next)?;
-    assert_eq!(rt;
-        opening.as_slice(),
-        b"draw pairing 2 teams\ncomplete\n".as_slice()
-    );
-    let refused = reply_text(alloc, &file, &Reply::Refused(Refusal::Form))?;
-    assert_eq!(rt; refused.as_slice(), b"refused form\n".as_slice());
-    assert_eq!(rt; Status::TooLong.number(), 6);
+fn the_laws_return(rt: HostRuntime) {
     law_one_offer();
     law_offer_exists();
     law_states_stay();
     law_one_answer();
     law_answer_exists();
     law_answer_or_refusal();
-    Ok(())
+    assert_eq!(rt; Status::TooLong.number(), 6);
 }

@@ -58,7 +58,7 @@ impl DrawFile {
         }
     }
 
-    /// The kind of the draw.
+    /// The kind of the draw. Takes no memory.
     pub fn kind(&self) -> Kind
         ensures kind { result ≡ self.now.kind }
         ensures formed { IsWellFormed self.now }
@@ -66,28 +66,28 @@ impl DrawFile {
         self.kind
     }
 
-    /// How many groups there are; 0 in a pairing.
+    /// How many groups there are; 0 in a pairing. Takes no memory.
     pub fn groups(&self) -> u32
         ensures { result ≡ self.now.groups }
     {
         self.groups
     }
 
-    /// How many pots there are; 2 in a pairing.
+    /// How many pots there are; 2 in a pairing. Takes no memory.
     pub fn pots(&self) -> u32
         ensures { result ≡ self.now.pots }
     {
         self.pots
     }
 
-    /// The teams, in file order.
+    /// The teams, in file order. Takes no memory.
     pub fn teams(&self) -> &Teams
         ensures { result.now ≡ self.now.teams }
     {
         &self.teams
     }
 
-    /// The forbidden pairs, in file order.
+    /// The forbidden pairs, in file order. Takes no memory.
     pub fn pairs(&self) -> &[Pair]
         ensures { result.now ≡ self.now.pairs }
     {

@@ -7,4 +7,4 @@ mod rules;
 
 pub use draw_file::DrawFile;
 pub use pair::Pair;
-pub use rules::rules_from;
+pub use rules::{law_files_have_form, rules_from};

@@ -2,13 +2,16 @@ ghost use Rattle.std.specs.Prelude.{◌≡◌, ◌≢◌, ◌≤◌, length, Ok,
 ghost use Rattle.team_files.specs.Answers.{Gives};
 ghost use Rattle.team_files.specs.Heads.{IsReadHead};
 ghost use Rattle.rule_sets.specs.Files.{file_of, team_named, pair_of, pairs_from};
+ghost use Rattle.rule_sets.specs.Forms.{FilesHaveForm};
 
 use crate::draw_file::DrawFile;
 use crate::pair::Pair;
 use std::alloc::Global;
 use team_files::{Code, FileFault, Head, HeadPair, TeamId, Teams};
 
-/// The draw file of a head, or its first fault: `BadPair`, or want of memory.
+/// The draw file of a head, with its forbidden pairs looked up. `BadPair` tells the place, counted
+/// from 0, of the first pair that does not name two different teams of the head; else the only
+/// fault is want of memory.
 pub fn rules_from(alloc: Global, head: Head) -> Result<DrawFile, FileFault>
     requires { IsReadHead head }
     ensures { Gives result (file_of head) }
@@ -53,3 +56,9 @@ fn pair_of(teams: &Teams, place: u32, pair: &HeadPair) -> Result<Pair, FileFault
         _ => Err(FileFault::BadPair { place }),
     }
 }
+
+/// Each well-formed draw file has the form of one: a pairing of at most 40 teams in two pots of one
+/// size, and at most 64 forbidden pairs of two different teams. Does nothing.
+pub fn law_files_have_form()
+    ensures { FilesHaveForm }
+{}

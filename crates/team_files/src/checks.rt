@@ -1,6 +1,6 @@
 //! Limits, codes and pot sizes of the members whose forms are right.
 
-ghost use Rattle.std.specs.Prelude.{◌≡◌, ◌<◌, ◌≤◌, ◌≢◌, ◌^◌, ℕ, length, Ok, Err, IfOk, IfErr, OnOk};
+ghost use Rattle.std.specs.Prelude.{◌≡◌, ◌≤◌, ◌≢◌, length, IfOk, IfErr, OnOk};
 ghost use Rattle.std.specs.Result.{result_err};
 ghost use Rattle.team_files.specs.Answers.{Gives, after, unless};
 ghost use Rattle.team_files.specs.Heads.{too_many_fault, most_teams, team_of, teams_from, same_code_fault, pot_size, pot_size_fault};
@@ -20,7 +20,7 @@ pub(crate) const MOST_TEAMS: usize = 40;
 pub(crate) const MOST_PAIRS: usize = 64;
 
 /// Refuses the first list that is longer than its limit.
-pub(crate) fn check_numbers(fields: &HeadFields) -> Result<(), FileFault>
+pub(crate) fn check_lengths(fields: &HeadFields) -> Result<(), FileFault>
     ensures fault { result_err result ≡ too_many_fault fields.now }
     ensures few { OnOk result (length fields.now.teams ≤ most_teams) }
 {

@@ -1,12 +1,12 @@
 //! Reads a head: one pass a fault, in the order of the faults' numbers.
 
-ghost use Rattle.std.specs.Prelude.{◌≡◌, ◌≢◌, Some, None, IfOk, IfErr, IsUtf8};
+ghost use Rattle.std.specs.Prelude.{◌≡◌, ◌≢◌, IfOk, IfErr};
 ghost use Rattle.std.specs.Result.{result_err};
 ghost use Rattle.serde_json.specs.View.{view};
 ghost use Rattle.team_files.specs.Answers.{Gives, Passes};
 ghost use Rattle.team_files.specs.Heads.{IsHead, IsHeadFault, IsJson, IsNotJson, object_fault, fault_of_kind, kind_fault, head_of};
 
-use crate::checks::{check_numbers, check_pots, teams_of};
+use crate::checks::{check_lengths, check_pots, teams_of};
 use crate::fault::{Field, FileFault};
 use crate::forms::head_fields;
 use crate::head::Head;
@@ -17,8 +17,8 @@ use crate::text::Text;
 use serde_json::Value;
 use std::alloc::Global;
 
-/// Reads the head of a draw file: one JSON object, whose members in other kinds and whose unknown
-/// members are passed over, and of whose repeated members the last counts.
+/// Reads the head of a draw file, which is one JSON object. Members that a pairing does not have are
+/// passed over, in the teams too, and of repeated members the last counts.
 ///
 /// # Errors
 /// The head's first fault. `NotJson` and `NotObject` come first, then what is wrong with `kind`:
@@ -56,7 +56,7 @@ fn head_of(alloc: Global, value: &Value) -> Result<Head, FileFault>
     check_kind(alloc, value)?;
     check_members(value)?;
     let fields = head_fields(alloc, value)?;
-    check_numbers(&fields)?;
+    check_lengths(&fields)?;
     let teams = teams_of(alloc, fields.teams)?;
     check_pots(&teams)?;
     Ok(Head {

@@ -1,0 +1,231 @@
+-- A well-formed draw file has its form: no fault of a head, and none of its pairs, holds of it.
+use Rattle.std.proofs.Common.{◌≡◌, ◌≢◌, ℕ, zero, suc, eqb-true, ◌+◌, ◌<◌, ◌≤◌, ◌⊎◌, Bool, true, false, List, [], ◌∷◌, length, Option, Some, None, Result, Ok, Err, slice_get, refl, sym, ◌∙◌, ap, subst, arith}
+use Rattle.std.specs.Prelude.{◌==◌, ◌&&◌, nat_le, bytes_eq, if◌then◌else◌, option_and_then, is_some, codes}
+use Rattle.std.specs.List.{All}
+use Rattle.std.proofs.lemmas.List.Elements.{All-nil, All-cons}
+use Rattle.std.proofs.lemmas.Bool.Decides.{nat_tests, same_from_decides}
+use Rattle.std.proofs.lemmas.Slice.Eq.{bytes_eq-Decides}
+use Rattle.team_files.specs.declared.fault.FileFault.{FileFault}
+use Rattle.team_files.specs.declared.fault.Field.{Field}
+use Rattle.team_files.specs.declared.fields.TeamFields.{TeamFields}
+use Rattle.team_files.specs.declared.fields.HeadFields.{HeadFields}
+use Rattle.team_files.specs.declared.team.Team.{Team}
+use Rattle.team_files.specs.declared.team_id.TeamId.{TeamId}
+use Rattle.team_files.specs.declared.head_pair.HeadPair.{HeadPair}
+use Rattle.team_files.specs.declared.head.Head.{Head}
+use Rattle.team_files.specs.Characters.{is_code}
+use Rattle.team_files.specs.Answers.{after}
+use Rattle.team_files.specs.Members.{where_true, text_in, number_in, tags_in, letter_of}
+use Rattle.team_files.specs.Teams.{find_from, find, HaveDistinctCodes}
+use Rattle.team_files.specs.Heads.{or_wrong, name_in, pot_in, team_fields, all_team_fields, objects_in, pairs_in, head_fields, too_many_fault, team_of, teams_from, same_code_from, pot_size, pot_size_fault, name_of, head_of}
+use Rattle.team_files.specs.HeadLaws.{gave, parts, few_pairs}
+use Rattle.team_files.proofs.Distinct.{distinct}
+use Rattle.rule_sets.specs.declared.pair.Pair.{Pair}
+use Rattle.rule_sets.specs.Files.{team_named, pair_at, pair_of, pairs_from}
+use Rattle.rule_sets.specs.Forms.{IsInPot, NamesTwoTeams, HasForm, FilesHaveForm}
+
+-- ---- the pots
+
+one_or_two : (n : ℕ) → (nat_le 1 n && nat_le n 2) ≡ true → (n ≡ 1) ⊎ (n ≡ 2)
+one_or_two n e = grind (arith, nat_tests)
+
+pot_range : (m : Option ℕ) (n : ℕ) → option_and_then (λ k. where_true (nat_le 1 k && nat_le k 2) k) m ≡ Some n → (n ≡ 1) ⊎ (n ≡ 2)
+pot_range None n e = cc
+pot_range (Some m) n e = go (nat_le 1 m && nat_le m 2) refl e
+  where
+    go : (b : Bool) → (nat_le 1 m && nat_le m 2) ≡ b → where_true b m ≡ Some n → (n ≡ 1) ⊎ (n ≡ 2)
+    go true is f = let s : m ≡ n = cc in subst (λ (k : ℕ). (k ≡ 1) ⊎ (k ≡ 2)) s (one_or_two m is)
+    go false is f = cc
+
+-- the fields of a team have the pot that its object has
+pot_kept : (code : Result (List ℕ) FileFault) (name : Result (Option (List ℕ)) FileFault) (pot : Option ℕ)
+    (tags : Result (List (List ℕ)) FileFault) (letter : Result ℕ FileFault) (f : TeamFields)
+    → after code (λ c. after name (λ n. after (or_wrong pot Field.Pot) (λ p. after tags (λ t. after letter (λ l.
+    Ok (record { code = c; name = n; pot = p; tags = t; group_letter = l })))))) ≡ Ok f
+    → pot ≡ Some f.pot
+pot_kept (Err x) name pot tags letter f e = cc
+pot_kept (Ok c) (Err x) pot tags letter f e = cc
+pot_kept (Ok c) (Ok n) None tags letter f e = cc
+pot_kept (Ok c) (Ok n) (Some p) (Err x) letter f e = cc
+pot_kept (Ok c) (Ok n) (Some p) (Ok t) (Err x) f e = cc
+pot_kept (Ok c) (Ok n) (Some p) (Ok t) (Ok l) f e = cc
+
+fields_pot : (d : _) (f : TeamFields) → team_fields d ≡ Ok f → (f.pot ≡ 1) ⊎ (f.pot ≡ 2)
+fields_pot d f e =
+    let code = or_wrong (text_in (codes "code") d) Field.Code in
+    let name = or_wrong (name_in d) Field.Name in
+    let tags = or_wrong (tags_in (codes "tags") d) Field.Tags in
+    let letter = or_wrong (option_and_then letter_of (text_in (codes "group") d)) Field.Group in
+    pot_range (number_in (codes "pot") d) f.pot (pot_kept code name (pot_in d) tags letter f e)
+
+team_pot : (i : ℕ) (f : TeamFields) (t : Team) → team_of i f ≡ Ok t → t.pot ≡ f.pot
+team_pot i f t e = go (is_code f.code) e
+  where
+    go : (b : Bool)
+        → (if b then Ok (record { code = f.code; name = name_of f.code f.name; pot = f.pot; tags = f.tags; group_letter = Some f.group_letter }) else Err (FileFault.BadCode i)) ≡ Ok t
+        → t.pot ≡ f.pot
+    go true h = cc
+    go false h = cc
+
+pots : (i : ℕ) (ds : List _) (fs : List TeamFields) (ts : List Team)
+    → all_team_fields ds ≡ Ok fs → teams_from i fs ≡ Ok ts → All IsInPot ts
+pots i [] fs ts e h =
+    let no_fields : fs ≡ [] = cc in
+    let no_teams : ts ≡ [] = ends (rw no_fields at h) in
+    rw no_teams (All-nil IsInPot)
+  where
+    ends : teams_from i [] ≡ Ok ts → ts ≡ []
+    ends k = cc
+pots i (d ∷ ds) fs ts e h =
+    let first = gave (team_fields d) _ fs e in
+    let rest = gave (all_team_fields ds) (λ teams. Ok (first.0 ∷ teams)) fs first.2 in
+    let whole : fs ≡ first.0 ∷ rest.0 = cc in
+    let team = gave (team_of i first.0) _ ts (rw whole at h) in
+    let teams = gave (teams_from (i + 1) rest.0) (λ teams. Ok (team.0 ∷ teams)) ts team.2 in
+    let all : ts ≡ team.0 ∷ teams.0 = cc in
+    let stands : IsInPot team.0 = rw (team_pot i first.0 team.0 team.1) (fields_pot d first.0 first.1) in
+    rw all (All-cons IsInPot team.0 teams.0 stands (pots (i + 1) ds rest.0 teams.0 rest.1 teams.1))
+
+-- ---- the numbers of teams and of pairs
+
+teams_size : (i : ℕ) (fs : List TeamFields) (ts : List Team) → teams_from i fs ≡ Ok ts → length ts ≡ length fs
+teams_size i [] ts e = let none : ts ≡ [] = cc in rw none refl
+teams_size i (f ∷ fs) ts e =
+    let team = gave (team_of i f) _ ts e in
+    let teams = gave (teams_from (i + 1) fs) _ ts team.2 in
+    let all : ts ≡ team.0 ∷ teams.0 = cc in
+    rw all (ap (λ n. suc n) (teams_size (i + 1) fs teams.0 teams.1))
+
+few_teams : (fields : HeadFields) → too_many_fault fields ≡ None → length fields.teams ≤ 40
+few_teams fields e = grind (arith, nat_tests)
+
+pairs_size : (teams : List Team) (i : ℕ) (ps : List HeadPair) (pairs : List Pair)
+    → pairs_from teams i ps ≡ Ok pairs → length pairs ≡ length ps
+pairs_size teams i [] pairs e = let none : pairs ≡ [] = cc in rw none refl
+pairs_size teams i (p ∷ ps) pairs e =
+    let pair = gave (pair_of teams i p) _ pairs e in
+    let rest = gave (pairs_from teams (i + 1) ps) _ pairs pair.2 in
+    let all : pairs ≡ pair.0 ∷ rest.0 = cc in
+    rw all (ap (λ n. suc n) (pairs_size teams (i + 1) ps rest.0 rest.1))
+
+-- ---- the sizes of the pots
+
+sizes : (teams : List Team) → pot_size_fault teams ≡ None → (pot_size 1 teams ≢ 0) × (pot_size 2 teams ≡ pot_size 1 teams)
+sizes teams e = go (pot_size 1 teams) (pot_size 2 teams) e
+  where
+    go : (a b : ℕ)
+        → (if a == 0 then Some (FileFault.PotSize 1 0) else (if b == a then None else Some (FileFault.PotSize 2 b))) ≡ None
+        → (a ≢ 0) × (b ≡ a)
+    go a b h = (first (a == 0) refl h, second (a == 0) (b == a) refl h)
+      where
+        first : (x : Bool)
+            → (a == 0) ≡ x
+            → (if x then Some (FileFault.PotSize 1 0) else (if b == a then None else Some (FileFault.PotSize 2 b))) ≡ None
+            → a ≢ 0
+        first true is f = cc
+        first false is f = λ none. grind (arith, nat_tests)
+
+        second : (x y : Bool)
+            → (b == a) ≡ y
+            → (if x then Some (FileFault.PotSize 1 0) else (if y then None else Some (FileFault.PotSize 2 b))) ≡ None
+            → b ≡ a
+        second true y is f = cc
+        second false true is f = eqb-true b a is
+        second false false is f = cc
+
+-- ---- the pairs
+
+found_within : (code : List ℕ) (ts : List Team) (i : ℕ) (id : TeamId) → find_from code ts i ≡ Some id → id.0 < i + length ts
+found_within code [] i id e = cc
+found_within code (t ∷ ts) i id e = go (bytes_eq t.code code) e (λ h. found_within code ts (i + 1) id h)
+  where
+    go : (b : Bool)
+        → (if b then Some (record { 0 = i }) else find_from code ts (i + 1)) ≡ Some id
+        → (find_from code ts (i + 1) ≡ Some id → id.0 < (i + 1) + length ts) → id.0 < i + suc (length ts)
+    go true h later = let is : i ≡ id.0 = cc in omega arith
+    go false h later = let lt = later h in omega arith
+
+named_within : (teams : List Team) (text : List ℕ) (id : TeamId) → team_named teams text ≡ Some id → id.0 < length teams
+named_within teams text id e = go (is_code text) e
+  where
+    go : (b : Bool) → option_and_then (λ code. find code teams) (where_true b text) ≡ Some id → id.0 < length teams
+    go true h = let lt = found_within text teams 0 id h in omega arith
+    go false h = cc
+
+unequal : (a b : ℕ) → (a == b) ≡ false → a ≢ b
+unequal a b e same = grind (arith, nat_tests)
+
+pair_is : (place : ℕ) (a b : Option TeamId) (p : Pair)
+    → pair_at place a b ≡ Ok p → (a ≡ Some p.first) × (b ≡ Some p.second) × (p.first.0 ≢ p.second.0)
+pair_is place None b p e = cc
+pair_is place (Some a) None p e = cc
+pair_is place (Some a) (Some b) p e = go (a.0 == b.0) refl e
+  where
+    go : (x : Bool)
+        → (a.0 == b.0) ≡ x
+        → (if x then Err (FileFault.BadPair place) else Ok (record { first = a; second = b })) ≡ Ok p
+        → (Some a ≡ Some p.first) × (Some b ≡ Some p.second) × (p.first.0 ≢ p.second.0)
+    go true is h = cc
+    go false is h =
+        let one : a ≡ p.first = cc in
+        let two : b ≡ p.second = cc in
+        (ap (λ x. Some x) one, ap (λ x. Some x) two, λ same. unequal a.0 b.0 is (ap (λ x. x.0) one ∙ same ∙ sym (ap (λ x. x.0) two)))
+
+pair_names : (teams : List Team) (place : ℕ) (named : HeadPair) (p : Pair)
+    → pair_of teams place named ≡ Ok p → NamesTwoTeams teams p
+pair_names teams place named p e =
+    let is = pair_is place (team_named teams named.first) (team_named teams named.second) p e in
+    record { first = named_within teams named.first p.first is.0; second = named_within teams named.second p.second is.1; different = is.2 }
+
+all_name : (teams : List Team) (i : ℕ) (ps : List HeadPair) (pairs : List Pair)
+    → pairs_from teams i ps ≡ Ok pairs → All (NamesTwoTeams teams) pairs
+all_name teams i [] pairs e = let none : pairs ≡ [] = cc in rw none (All-nil (NamesTwoTeams teams))
+all_name teams i (p ∷ ps) pairs e =
+    let pair = gave (pair_of teams i p) _ pairs e in
+    let rest = gave (pairs_from teams (i + 1) ps) _ pairs pair.2 in
+    let all : pairs ≡ pair.0 ∷ rest.0 = cc in
+    rw all (All-cons (NamesTwoTeams teams) pair.0 rest.0 (pair_names teams i p pair.0 pair.1) (all_name teams (i + 1) ps rest.0 rest.1))
+
+-- ---- the file
+
+fields_kept : (teams : Result (List TeamFields) FileFault) (pairs : Result (List HeadPair) FileFault) (fields : HeadFields)
+    → after teams (λ ts. after pairs (λ ps. Ok (record { teams = ts; pairs = ps }))) ≡ Ok fields
+    → teams ≡ Ok fields.teams
+fields_kept (Err x) pairs fields e = cc
+fields_kept (Ok ts) (Err x) fields e = cc
+fields_kept (Ok ts) (Ok ps) fields e = cc
+
+teams_in_pots : (d : _) (fields : HeadFields) (teams : List Team)
+    → head_fields d ≡ Ok fields → teams_from 0 fields.teams ≡ Ok teams → All IsInPot teams
+teams_in_pots d fields teams e h =
+    let objects = gave (or_wrong (objects_in (codes "teams") d) Field.Teams) _ fields e in
+    pots 0 objects.0 fields.teams teams (fields_kept (all_team_fields objects.0) (or_wrong (pairs_in d) Field.Pairs) fields objects.2) h
+
+form_of : (d : _) (head : Head) (pairs : List Pair) → head_of d ≡ Ok head → pairs_from head.teams 0 head.pairs ≡ Ok pairs
+    → HasForm (record { kind = head.kind; groups = head.groups; pots = head.pots; teams = head.teams; pairs = pairs })
+form_of d head pairs e h =
+    let p = parts d head e in
+    let fields = p.0 in
+    let read = p.2 in
+    let teams : p.1 ≡ head.teams = ap (λ x. x.teams) read.whole in
+    let made : teams_from 0 fields.teams ≡ Ok head.teams = rw teams at read.teams_are in
+    let size = sizes head.teams (rw teams at read.sizes) in
+    record {
+      kind = sym (ap (λ x. x.kind) read.whole);
+      groups = sym (ap (λ x. x.groups) read.whole);
+      pots = sym (ap (λ x. x.pots) read.whole);
+      few_teams = rw (teams_size 0 fields.teams head.teams made) (few_teams fields read.few);
+      distinct_codes = distinct head.teams (rw teams at read.distinct);
+      in_pots = teams_in_pots d fields head.teams read.fields_are made;
+      not_empty = size.0;
+      same_size = size.1;
+      few_pairs = rw (pairs_size head.teams 0 head.pairs pairs h) (few_pairs head (d, e));
+      pairs = all_name head.teams 0 head.pairs pairs h;
+    }
+
+pub files_have_form : FilesHaveForm
+files_have_form file formed =
+    let head = formed.0 in
+    let made = gave (pairs_from head.teams 0 head.pairs) _ file formed.2 in
+    let is : record { kind = head.kind; groups = head.groups; pots = head.pots; teams = head.teams; pairs = made.0 } ≡ file = cc in
+    subst HasForm is (form_of formed.1.0 head made.0 formed.1.1 made.1)

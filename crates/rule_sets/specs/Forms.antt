@@ -1,0 +1,40 @@
+-- The form of a draw file: what can be read off the file alone.
+use Rattle.std.specs.Prelude.{◌≡◌, ◌≢◌, ◌<◌, ◌≤◌, ◌⊎◌, List, length}
+use Rattle.std.specs.List.{All}
+use Rattle.team_files.specs.declared.kind.Kind.{Kind}
+use Rattle.team_files.specs.declared.team.Team.{Team}
+use Rattle.team_files.specs.Teams.{HaveDistinctCodes}
+use Rattle.team_files.specs.Heads.{pot_size}
+use Rattle.rule_sets.specs.declared.pair.Pair.{Pair}
+use Rattle.rule_sets.specs.Files.{DrawFile, IsWellFormed}
+
+-- the team stands in pot 1, with the winners, or in pot 2, with the runners-up
+abbrev pub IsInPot : Team → Type 0
+IsInPot team = (team.pot ≡ 1) ⊎ (team.pot ≡ 2)
+
+-- the pair names two different teams of the list
+pub record NamesTwoTeams (teams : List Team) (pair : Pair) : Type 0 where
+  pub first : pair.first.0 < length teams
+  pub second : pair.second.0 < length teams
+  pub different : pair.first.0 ≢ pair.second.0
+
+-- The form of a draw file.
+pub record HasForm (file : DrawFile) : Type 0 where
+  -- it is of a pairing, which has two pots and no groups
+  pub kind : file.kind ≡ Kind.Pairing
+  pub groups : file.groups ≡ 0
+  pub pots : file.pots ≡ 2
+  -- it has at most 40 teams, and no two have one code
+  pub few_teams : length file.teams ≤ 40
+  pub distinct_codes : HaveDistinctCodes file.teams
+  -- each team stands in a pot; pot 1 is not empty, and pot 2 is of its size
+  pub in_pots : All IsInPot file.teams
+  pub not_empty : pot_size 1 file.teams ≢ 0
+  pub same_size : pot_size 2 file.teams ≡ pot_size 1 file.teams
+  -- it forbids at most 64 pairs, each of two different teams
+  pub few_pairs : length file.pairs ≤ 64
+  pub pairs : All (NamesTwoTeams file.teams) file.pairs
+
+-- Each well-formed draw file has this form.
+abbrev pub FilesHaveForm : Type 0
+FilesHaveForm = (file : DrawFile) → IsWellFormed file → HasForm file
