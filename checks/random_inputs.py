@@ -107,6 +107,9 @@ def one_input(rng, most):
     if rng.random() < 0.05:
         place = rng.randrange(len(text))
         text = text[:place] + bytes([rng.randrange(256)]) + text[place + 1 :]
+    if rng.random() < 0.05:
+        number = rng.choice((b"1e999", b"-1e999", b"9" * 400, b"1e308", b"18446744073709551616", b"-0", b"01", b"NaN"))
+        text = text.replace(b":1", b":" + number, 1) if rng.random() < 0.5 else text[:-1] + b',"x":' + number + b"}"
     if rng.random() < 0.02:
         text = b"\xef\xbb\xbf" + text
     end = rng.choice((b"\n", b"\r\n", b"", b" \n"))
@@ -118,7 +121,7 @@ def one_input(rng, most):
 
 def main():
     parser = argparse.ArgumentParser(description=__doc__)
-    parser.add_argument("--inputs", type=int, default=1500)
+    parser.add_argument("--inputs", type=int, default=5000)
     parser.add_argument("--seed", type=int, default=1)
     parser.add_argument("--most", type=int, default=6, help="the most pairs of a file; ten at the most")
     words = parser.parse_args()

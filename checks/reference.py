@@ -37,7 +37,7 @@ def read_json(head):
 
     depth = deepest(text)
     try:
-        value = json.loads(text, parse_int=whole_number, parse_constant=constant)
+        value = json.loads(text, parse_int=whole_number, parse_float=fraction, parse_constant=constant)
     except (ValueError, RecursionError):
         raise Refused("1 NotJson") from None
     if depth > 127 or has_bad_text(text):
@@ -45,12 +45,19 @@ def read_json(head):
     return value
 
 
+def fraction(digits):
+    """A number as a float; one that is too large for a float is not read."""
+    number = float(digits)
+    if number in (float("inf"), float("-inf")):
+        raise ValueError(digits)
+    return number
+
+
 def whole_number(digits):
     """An unsigned 64-bit number as such; anything else as a fraction."""
-    if digits.startswith("-"):
-        return float(digits)
-    number = int(digits)
-    return WholeNumber(number) if number < 2**64 else float(digits)
+    if digits.startswith("-") or len(digits) > 20 or int(digits) >= 2**64:
+        return fraction(digits)
+    return WholeNumber(int(digits))
 
 
 def deepest(text):

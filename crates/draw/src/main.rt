@@ -27,6 +27,7 @@ fn main(rt: HostRuntime) -> ExitCode {
             Ok(words) => words,
             Err(_) => return ExitCode::from(5),
         },
+        Err(error) if error.kind() == io::ErrorKind::OutOfMemory => return ExitCode::from(5),
         Err(_) => Vec::new(alloc),
     };
     let mut source = StdSource::new(rt.reader());

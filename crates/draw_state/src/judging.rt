@@ -89,7 +89,7 @@ pub fn next_line(phase: Phase, offered: Choices) -> NextLine
     }
 }
 
-/// The choices that name these teams, in order.
+/// The choices that name these teams, in order. The only error is want of memory.
 pub fn choices_of(alloc: Global, teams: &[TeamId]) -> Result<Vec<Choice>, NoMemory>
     ensures { IfOk result (λ choices. choices.items ≡ map (λ t. ChoiceValue.Team t) teams.now) }
 {

@@ -21,7 +21,8 @@ pub fn phase_of(file: &DrawFile, moves: &[Move]) -> Phase
     }
 }
 
-/// The teams whose balls the phase after the moves lets come, in file order.
+/// The teams whose balls the phase after the moves lets come, in file order. The only error is want
+/// of memory.
 pub fn candidate_teams(
     alloc: Global,
     file: &DrawFile,
@@ -50,7 +51,7 @@ fn candidates_in(
     }
 }
 
-/// The move that a candidate adds in a phase.
+/// The move that a candidate adds in a phase. Takes no memory.
 pub fn move_of(phase: Phase, choice: Choice) -> Move
     ensures { result ≡ move_of phase choice }
 {

@@ -1,5 +1,5 @@
 -- What was read to its end is what the source held.
-use Rattle.std.proofs.Common.{◌≡◌, ℕ, List, [], ◌++◌, Option, Some, None, Result, Ok, Err, ◌⊎◌, inl, inr, refl, sym, ap, subst, ◌∙◌, append-nil}
+use Rattle.std.proofs.Common.{◌≡◌, ℕ, List, [], ◌++◌, Option, Some, None, Result, Ok, Err, ◌⊎◌, inl, inr, refl, sym, ap, subst, ◌∙◌, append-nil, length, ◌<◌, ◌≤◌, arith}
 use Rattle.std.specs.Io.KnownBytes.{Consumes, IsAtEnd, Appends}
 use Rattle.draw_ports.specs.Causes.{AppendsSome}
 use Rattle.team_files.specs.declared.fault.FileFault.{FileFault}
@@ -7,7 +7,7 @@ use Rattle.team_files.specs.declared.head.Head.{Head}
 use Rattle.team_files.specs.Heads.{head_of as read_head}
 use Rattle.rule_sets.specs.Files.{DrawFile, file_of, IsFileOf, IsFileFault}
 use Rattle.draw_lines.specs.Inputs.{head_of}
-use Rattle.draw_top.specs.Follow.{IsAnswerOf, IsRefusalOf, GainsAnswer, GainsRefusal, GainsPart, HoldsFile}
+use Rattle.draw_top.specs.Follow.{IsAnswerOf, IsRefusalOf, GainsAnswer, GainsRefusal, GainsPart, HoldsFile, HoldsNoFile, TellsTooMuch, input_limit}
 
 module _ (input text : List ℕ) where
   pub gains_answer : (left rest old new : Option (List ℕ)) → Consumes left rest input → IsAtEnd rest → IsAnswerOf input text → Appends old new text → GainsAnswer left old new
@@ -56,3 +56,21 @@ not_refused input text (Some x) (Some y) p q h r =
     let Q : List ℕ → Type 0 = λ i. (file : DrawFile) × IsFileOf (head_of i) file in
     let found : (file : DrawFile) × IsFileOf (head_of input) file = subst Q same h.1 in
     excluded (head_of input) found.0 r.0 found.1 r.1
+
+-- An input that has no file is not answered.
+pub not_answered : (input text : List ℕ) (left rest : Option (List ℕ)) → Consumes left rest input → IsAtEnd rest → HoldsNoFile left → IsAnswerOf input text → ⊥
+not_answered input text None rest p q h r = absurd h
+not_answered input text (Some x) None p q h r = absurd p
+not_answered input text (Some x) (Some y) p q h r =
+    let same : input ≡ x = sym (p ∙ ap (λ l. input ++ l) q ∙ append-nil input) in
+    let Q : List ℕ → Type 0 = λ i. (file : DrawFile) × IsFileOf (head_of i) file in
+    h.1 (subst Q same (r.0, r.1))
+
+-- An input that was read is not too long.
+pub not_too_long : (input : List ℕ) (left rest : Option (List ℕ)) → Consumes left rest input → IsAtEnd rest → length input ≤ input_limit → TellsTooMuch left → ⊥
+not_too_long input None rest p q le h = absurd h
+not_too_long input (Some x) None p q le h = absurd p
+not_too_long input (Some x) (Some y) p q le h =
+    let same : x ≡ input = p ∙ ap (λ l. input ++ l) q ∙ append-nil input in
+    let lengths : length x ≡ length input = ap length same in
+    omega arith

@@ -60,3 +60,11 @@ PassesLimit left = IfSome left (λ input. input_limit < length input)
 -- the source tells that it held an input with a draw file, within the limit
 abbrev pub HoldsFile : Option (List ℕ) → Type 0
 HoldsFile left = IsSomeAnd left (λ input. (length input ≤ input_limit) × HasFile input)
+
+-- the source tells that it held more bytes than are taken
+abbrev pub TellsTooMuch : Option (List ℕ) → Type 0
+TellsTooMuch left = IsSomeAnd left (λ input. input_limit < length input)
+
+-- the source tells that it held an input within the limit that has no draw file
+abbrev pub HoldsNoFile : Option (List ℕ) → Type 0
+HoldsNoFile left = IsSomeAnd left (λ input. (length input ≤ input_limit) × (HasFile input → ⊥))

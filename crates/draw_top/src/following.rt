@@ -11,7 +11,7 @@ ghost use Rattle.draw_tables.specs.Offers.{IsOffer};
 ghost use Rattle.draw_top.specs.Faults.{fault_line};
 ghost use Rattle.draw_top.specs.Replies.{IsReplyTo};
 ghost use Rattle.draw_top.specs.Outputs.{IsOutputOf};
-ghost use Rattle.draw_top.specs.Follow.{words_of, IsFollow, usage_line, GainsAnswer, GainsRefusal, GainsPart, FitsLimit, PassesLimit, HoldsFile};
+ghost use Rattle.draw_top.specs.Follow.{words_of, IsFollow, usage_line, GainsAnswer, GainsRefusal, GainsPart, FitsLimit, PassesLimit, HoldsFile, HoldsNoFile, TellsTooMuch};
 
 use crate::faults::fault_line;
 use crate::status::Status;
@@ -140,32 +140,38 @@ pub fn follow<S: Source, K: Sink>(
     ensures ok { result ≡ Status.Ok → GainsAnswer (S.left src.old) (K.wrote out.old) (K.wrote out.new) }
     ensures ok_end { result ≡ Status.Ok → IsAtEnd (S.left src.new) }
     ensures ok_fits { result ≡ Status.Ok → FitsLimit (S.left src.old) }
-    ensures ok_quiet { result ≡ Status.Ok → (S.faults src.new ≡ S.faults src.old) × (K.faults out.new ≡ K.faults out.old) }
     // Usage exactly by the words.
     ensures usage { result ≡ Status.Usage → IsFollow (words_of words.now) → ⊥ }
     ensures usage_line { result ≡ Status.Usage → Appends (K.wrote out.old) (K.wrote out.new) usage_line }
-    ensures usage_quiet { result ≡ Status.Usage → (S.left src.new ≡ S.left src.old) × (S.faults src.new ≡ S.faults src.old) × (K.faults out.new ≡ K.faults out.old) }
+    ensures usage_reads_nothing { (IsFollow (words_of words.now) → ⊥) → (S.left src.new ≡ S.left src.old) × (S.faults src.new ≡ S.faults src.old) }
     ensures no_form { (IsFollow (words_of words.now) → ⊥) → (result ≡ Status.Usage) ⊎ (result ≡ Status.WriteFault) }
     // A head without a file, whose source was read to its end.
     ensures refused { result ≡ Status.FileRefused → GainsRefusal (S.left src.old) (K.wrote out.old) (K.wrote out.new) }
     ensures refused_end { result ≡ Status.FileRefused → IsAtEnd (S.left src.new) }
     ensures refused_fits { result ≡ Status.FileRefused → FitsLimit (S.left src.old) }
-    ensures refused_quiet { result ≡ Status.FileRefused → (S.faults src.new ≡ S.faults src.old) × (K.faults out.new ≡ K.faults out.old) }
-    // A fault only where that object's count rose in this call.
+    // A fault only where that object's count rose in this call; after a failed `put` or `take` no other status.
     ensures read { result ≡ Status.ReadFault → Rose (S.faults src.old) (S.faults src.new) }
+    ensures source_quiet { result ≢ Status.ReadFault → S.faults src.new ≡ S.faults src.old }
+    ensures sink_quiet { result ≢ Status.WriteFault → K.faults out.new ≡ K.faults out.old }
     ensures read_none { result ≡ Status.ReadFault → Keeps (K.wrote out.old) (K.wrote out.new) }
     ensures write { result ≡ Status.WriteFault → Rose (K.faults out.old) (K.faults out.new) }
     ensures write_part { result ≡ Status.WriteFault → IsFollow (words_of words.now) → GainsPart (S.left src.old) (K.wrote out.old) (K.wrote out.new) }
+    ensures write_end { result ≡ Status.WriteFault → IsFollow (words_of words.now) → IsAtEnd (S.left src.new) }
     ensures write_usage { result ≡ Status.WriteFault → (IsFollow (words_of words.now) → ⊥) → AppendsSome (K.wrote out.old) (K.wrote out.new) usage_line }
     // Too long exactly by the number of bytes, where no read failed.
     ensures too_long { result ≡ Status.TooLong → PassesLimit (S.left src.old) }
-    ensures too_long_quiet { result ≡ Status.TooLong → S.faults src.new ≡ S.faults src.old }
     ensures too_long_none { result ≡ Status.TooLong → Keeps (K.wrote out.old) (K.wrote out.new) }
     ensures no_memory_none { result ≡ Status.NoMemory → Keeps (K.wrote out.old) (K.wrote out.new) }
-    // The words, a draw file, no fault and at most the limit of bytes: the answer, or no memory.
+    // The right words and no fault: by the bytes alone, or no memory.
     ensures complete { IsFollow (words_of words.now) → HoldsFile (S.left src.old)
         → (Rose (S.faults src.old) (S.faults src.new) → ⊥) → (Rose (K.faults out.old) (K.faults out.new) → ⊥)
         → (result ≡ Status.Ok) ⊎ (result ≡ Status.NoMemory) }
+    ensures complete_refused { IsFollow (words_of words.now) → HoldsNoFile (S.left src.old)
+        → (Rose (S.faults src.old) (S.faults src.new) → ⊥) → (Rose (K.faults out.old) (K.faults out.new) → ⊥)
+        → (result ≡ Status.FileRefused) ⊎ (result ≡ Status.NoMemory) }
+    ensures complete_too_long { IsFollow (words_of words.now) → TellsTooMuch (S.left src.old)
+        → (Rose (S.faults src.old) (S.faults src.new) → ⊥) → (Rose (K.faults out.old) (K.faults out.new) → ⊥)
+        → (result ≡ Status.TooLong) ⊎ (result ≡ Status.NoMemory) }
 {
     if !is_follow(words) {
         return match put_all(out, USAGE) {

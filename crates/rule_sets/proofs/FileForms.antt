@@ -1,10 +1,9 @@
 -- A well-formed draw file has its form: no fault of a head, and none of its pairs, holds of it.
-use Rattle.std.proofs.Common.{◌≡◌, ◌≢◌, ℕ, zero, suc, eqb-true, ◌+◌, ◌<◌, ◌≤◌, ◌⊎◌, Bool, true, false, List, [], ◌∷◌, length, Option, Some, None, Result, Ok, Err, slice_get, refl, sym, ◌∙◌, ap, subst, arith}
-use Rattle.std.specs.Prelude.{◌==◌, ◌&&◌, nat_le, bytes_eq, if◌then◌else◌, option_and_then, is_some, codes}
+use Rattle.std.proofs.Common.{◌≡◌, ◌≢◌, ℕ, suc, eqb-true, ◌+◌, ◌<◌, ◌≤◌, ◌⊎◌, Bool, true, false, List, [], ◌∷◌, length, Option, Some, None, Result, Ok, Err, refl, sym, ◌∙◌, ap, subst, arith}
+use Rattle.std.specs.Prelude.{◌==◌, ◌&&◌, nat_le, bytes_eq, if◌then◌else◌, option_and_then, codes}
 use Rattle.std.specs.List.{All}
 use Rattle.std.proofs.lemmas.List.Elements.{All-nil, All-cons}
-use Rattle.std.proofs.lemmas.Bool.Decides.{nat_tests, same_from_decides}
-use Rattle.std.proofs.lemmas.Slice.Eq.{bytes_eq-Decides}
+use Rattle.std.proofs.lemmas.Bool.Decides.{nat_tests}
 use Rattle.team_files.specs.declared.fault.FileFault.{FileFault}
 use Rattle.team_files.specs.declared.fault.Field.{Field}
 use Rattle.team_files.specs.declared.fields.TeamFields.{TeamFields}
@@ -16,9 +15,9 @@ use Rattle.team_files.specs.declared.head.Head.{Head}
 use Rattle.team_files.specs.Characters.{is_code}
 use Rattle.team_files.specs.Answers.{after}
 use Rattle.team_files.specs.Members.{where_true, text_in, number_in, tags_in, letter_of}
-use Rattle.team_files.specs.Teams.{find_from, find, HaveDistinctCodes}
-use Rattle.team_files.specs.Heads.{or_wrong, name_in, pot_in, team_fields, all_team_fields, objects_in, pairs_in, head_fields, too_many_fault, team_of, teams_from, same_code_from, pot_size, pot_size_fault, name_of, head_of}
-use Rattle.team_files.specs.HeadLaws.{gave, parts, few_pairs}
+use Rattle.team_files.specs.Teams.{find_from, find}
+use Rattle.team_files.specs.Heads.{or_wrong, name_in, pot_in, team_fields, all_team_fields, objects_in, pairs_in, head_fields, too_many_fault, team_of, teams_from, pot_size, pot_size_fault, name_of, head_of}
+use Rattle.team_files.proofs.HeadLaws.{gave, parts, few_pairs}
 use Rattle.team_files.proofs.Distinct.{distinct}
 use Rattle.rule_sets.specs.declared.pair.Pair.{Pair}
 use Rattle.rule_sets.specs.Files.{team_named, pair_at, pair_of, pairs_from}

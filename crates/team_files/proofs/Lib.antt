@@ -1,3 +1,4 @@
 pub mod Alphabet
 pub mod Distinct
 pub mod Elements
+pub mod HeadLaws

@@ -3,4 +3,3 @@ pub mod Teams
 pub mod Answers
 pub mod Members
 pub mod Heads
-pub mod HeadLaws

@@ -1,5 +1,5 @@
-use Rattle.std.proofs.Common.{inl, inr}
-use Rattle.draw_top.proofs.Gains.{gains_answer, gains_refusal, gains_part, not_refused}
+use Rattle.std.proofs.Common.{inl, inr, ◌≤◌, length, arith}
+use Rattle.draw_top.proofs.Gains.{gains_answer, gains_refusal, gains_part, not_refused, not_answered, not_too_long}
 use Rattle.draw_top.proofs.following.follow.Goals as goal
 
 pub returns-in-Ok-put_all-clause-ok : goal.returns-in-Ok-put_all-clause-ok
@@ -30,3 +30,18 @@ pub returns-in-Ok-put_all-2-clause-complete : goal.returns-in-Ok-put_all-2-claus
 returns-in-Ok-put_all-2-clause-complete g c = λ _ holds _ _.
     let read = rw (c.deref.ensures.value, c.in-Ok-Refusal.field-0-is) at c.in-Ok-Refusal.ensures in
     absurd (not_refused c.in-Ok-read_all.input.items c.in-Ok-Refusal.line.items _ _ c.in-Ok-read_all.ensures.all c.in-Ok-read_all.ensures.end holds read)
+
+pub returns-in-Ok-put_all-clause-complete_refused : goal.returns-in-Ok-put_all-clause-complete_refused
+returns-in-Ok-put_all-clause-complete_refused g c = λ _ holds _ _.
+    let read = rw (c.deref.ensures.value, c.in-Ok-Answer.field-0-is) at c.in-Ok-Answer.ensures in
+    absurd (not_answered c.in-Ok-read_all.input.items c.in-Ok-Answer.text.items _ _ c.in-Ok-read_all.ensures.all c.in-Ok-read_all.ensures.end holds read)
+
+pub returns-in-Ok-put_all-clause-complete_too_long : goal.returns-in-Ok-put_all-clause-complete_too_long
+returns-in-Ok-put_all-clause-complete_too_long g c = λ _ tells _ _.
+    let fits : length c.in-Ok-read_all.input.items ≤ 4194304 = omega (arith, c.in-Ok-read_all.input.ok.0, c.in-Ok-read_all.ensures.fits) in
+    absurd (not_too_long c.in-Ok-read_all.input.items _ _ c.in-Ok-read_all.ensures.all c.in-Ok-read_all.ensures.end fits tells)
+
+pub returns-in-Ok-put_all-2-clause-complete_too_long : goal.returns-in-Ok-put_all-2-clause-complete_too_long
+returns-in-Ok-put_all-2-clause-complete_too_long g c = λ _ tells _ _.
+    let fits : length c.in-Ok-read_all.input.items ≤ 4194304 = omega (arith, c.in-Ok-read_all.input.ok.0, c.in-Ok-read_all.ensures.fits) in
+    absurd (not_too_long c.in-Ok-read_all.input.items _ _ c.in-Ok-read_all.ensures.all c.in-Ok-read_all.ensures.end fits tells)

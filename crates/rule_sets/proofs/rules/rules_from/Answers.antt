@@ -1,5 +1,5 @@
 use Rattle.std.proofs.Common.{refl}
-use Rattle.team_files.specs.HeadLaws.{few_pairs}
+use Rattle.team_files.proofs.HeadLaws.{few_pairs}
 use Rattle.rule_sets.proofs.rules.rules_from.Goals as goal
 
 pub new-requires : goal.new-requires
