@@ -101,7 +101,7 @@ fn has_opponent(moves: &[Move], runner: TeamId) -> bool
 }
 
 /// Whether the team was drawn.
-fn is_drawn(moves: &[Move], team: TeamId) -> bool
+pub(crate) fn is_drawn(moves: &[Move], team: TeamId) -> bool
     ensures { result ≡ is_drawn team moves.now }
 {
     for step in moves {
@@ -115,7 +115,7 @@ fn is_drawn(moves: &[Move], team: TeamId) -> bool
 }
 
 /// Whether the winner is paired.
-fn is_paired(moves: &[Move], winner: TeamId) -> bool
+pub(crate) fn is_paired(moves: &[Move], winner: TeamId) -> bool
     ensures { result ≡ is_paired winner moves.now }
 {
     for step in moves {
