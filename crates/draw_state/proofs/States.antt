@@ -54,10 +54,14 @@ module _ (teams : List Team) (phase : Phase) (all offered : List Choice) (c : Ch
       go true f = cc
       go false f = command_is command f
 
-one_more : (file : DrawFile) (before ms : List Move) (m : Move)
+pub one_more : (file : DrawFile) (before ms : List Move) (m : Move)
     → AreMovesAfter file before ms → IsCandidateMove file (before ++ ms) m → AreMovesAfter file before (ms ++ m ∷ [])
 one_more file before [] m h next = (rw append-nil at next, tt)
 one_more file before (n ∷ ms) m h next = (h.0, one_more file (before ++ n ∷ []) ms m h.1 (rw append_assoc next))
+
+pub one_less : (file : DrawFile) (before ms : List Move) (m : Move) → AreMovesAfter file before (ms ++ m ∷ []) → AreMovesAfter file before ms
+one_less file before [] m h = tt
+one_less file before (n ∷ ms) m h = (h.0, one_less file (before ++ n ∷ []) ms m h.1)
 
 pub states_stay : StatesStay
 states_stay file ms offered answered command new_ms new_offered reply state step =

@@ -1,6 +1,8 @@
-ghost use Rattle.std.specs.Prelude.{◌≡◌};
+ghost use Rattle.std.specs.Prelude.{◌≡◌, IfOk};
 
+use crate::NoMemory;
 use draw_tables::{Choice, Move};
+use std::alloc::Global;
 use std::marker::Model;
 
 /// Moves in order. Contracts see their list.
@@ -32,6 +34,15 @@ impl Moves {
     {
         self.moves.as_slice()
     }
+
+    /// An equal list. The only error is want of memory.
+    pub fn clone_in(&self, alloc: Global) -> Result<Moves, NoMemory>
+        ensures { IfOk result (λ m. m ≡ self.now) }
+    {
+        Ok(Moves {
+            moves: Vec::from_slice(alloc, self.moves.as_slice())?,
+        })
+    }
 }
 
 /// Choices in order. Contracts see their list.
@@ -62,5 +73,14 @@ impl Choices {
         ensures { result.now ≡ self.now }
     {
         self.choices.as_slice()
+    }
+
+    /// An equal list. The only error is want of memory.
+    pub fn clone_in(&self, alloc: Global) -> Result<Choices, NoMemory>
+        ensures { IfOk result (λ c. c ≡ self.now) }
+    {
+        Ok(Choices {
+            choices: Vec::from_slice(alloc, self.choices.as_slice())?,
+        })
     }
 }

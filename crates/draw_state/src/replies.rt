@@ -1,5 +1,9 @@
+ghost use Rattle.std.specs.Prelude.{◌≡◌, IfOk};
+
+use crate::NoMemory;
 use crate::lists::{Choices, Moves};
 use draw_tables::Phase;
+use std::alloc::Global;
 
 /// Why a command is refused. The first cause that holds is told, in this order.
 #[derive(Clone, Copy, Debug, PartialEq, Eq)]
@@ -29,6 +33,22 @@ pub enum NextLine {
     Impossible,
 }
 
+impl NextLine {
+    /// An equal line. The only error is want of memory.
+    pub fn clone_in(&self, alloc: Global) -> Result<NextLine, NoMemory>
+        ensures { IfOk result (λ n. n ≡ self.now) }
+    {
+        match self {
+            NextLine::Choices { phase, choices } => Ok(NextLine::Choices {
+                phase: *phase,
+                choices: choices.clone_in(alloc)?,
+            }),
+            NextLine::Complete => Ok(NextLine::Complete),
+            NextLine::Impossible => Ok(NextLine::Impossible),
+        }
+    }
+}
+
 /// The reply to a command.
 #[derive(Drop)]
 pub enum Reply {
@@ -36,4 +56,19 @@ pub enum Reply {
     Refused(Refusal),
     /// The ball was accepted and added these moves.
     Taken { moves: Moves, next: NextLine },
+}
+
+impl Reply {
+    /// An equal reply. The only error is want of memory.
+    pub fn clone_in(&self, alloc: Global) -> Result<Reply, NoMemory>
+        ensures { IfOk result (λ r. r ≡ self.now) }
+    {
+        match self {
+            Reply::Refused(refusal) => Ok(Reply::Refused(*refusal)),
+            Reply::Taken { moves, next } => Ok(Reply::Taken {
+                moves: moves.clone_in(alloc)?,
+                next: next.clone_in(alloc)?,
+            }),
+        }
+    }
 }

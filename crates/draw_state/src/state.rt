@@ -1,0 +1,154 @@
+ghost use Rattle.std.specs.Prelude.{◌≡◌, [], ◌∷◌, ◌++◌, IfOk, OnOk, OnErr, IfErr, IfSome, MatchOption, true, false, Some};
+ghost use Rattle.draw_tables.specs.declared.moves.Choice.{Choice as ChoiceValue};
+ghost use Rattle.draw_tables.specs.Pots.{IsAmong};
+ghost use Rattle.draw_tables.specs.States.{phase_of, candidates, move_of, IsCandidateMove, IsState};
+
+use crate::NoMemory;
+use crate::judging::choices_of;
+use draw_tables::{Choice, Move, Phase, candidate_teams, is_candidate, move_of, phase_of};
+use rule_sets::DrawFile;
+use std::alloc::Global;
+use std::marker::Model;
+use std::sync::Arc;
+
+/// A state of a draw: a draw file, and the moves so far, each of which was a candidate's in the
+/// phase of the moves before it. Copies of a state share its file.
+#[derive(Drop)]
+pub struct State {
+    file: Arc<DrawFile>,
+    moves: Vec<Move>,
+}
+
+impl Model for State {
+    ghost use Rattle.draw_state.specs.State as spec;
+    ghost use Rattle.std.specs.Arc.{arc_value};
+    ghost use Rattle.draw_tables.specs.States.{IsState};
+
+    ghost Value = { spec.State };
+
+    ghost view = { λ s. record { file = arc_value s.file; moves = s.moves.items } };
+
+    ghost invariant = { λ s. IsState (arc_value s.file) s.moves.items };
+}
+
+/// Why a move was not added to a state.
+#[derive(Clone, Copy, Debug, PartialEq, Eq)]
+pub enum StateFault {
+    /// The move is no candidate's in the state's phase.
+    WrongPhase,
+    /// Want of memory.
+    NoMemory,
+}
+
+impl State {
+    /// The draw file. Takes no memory.
+    pub fn file(&self) -> &DrawFile
+        ensures file { result.now ≡ self.now.file }
+        ensures state { IsState self.now.file self.now.moves }
+    {
+        &self.file
+    }
+
+    /// The moves so far, in order. Takes no memory.
+    pub fn moves(&self) -> &[Move]
+        ensures { result.now ≡ self.now.moves }
+    {
+        self.moves.as_slice()
+    }
+
+    /// What comes next. Takes no memory.
+    pub fn phase(&self) -> Phase
+        ensures { result ≡ phase_of self.now.file self.now.moves }
+    {
+        phase_of(&self.file, &self.moves)
+    }
+
+    /// The choices that the phase lets come, in file order. The only error is want of memory.
+    pub fn candidates(&self, alloc: Global) -> Result<Vec<Choice>, NoMemory>
+        ensures { IfOk result (λ v. v.items ≡ candidates self.now.file self.now.moves) }
+    {
+        let teams = candidate_teams(alloc, &self.file, &self.moves)?;
+        let choices = choices_of(alloc, &teams)?;
+        Ok(choices)
+    }
+
+    /// The move that a choice adds. `None` exactly where the choice is no candidate of the phase.
+    /// Takes no memory.
+    pub fn move_of(&self, choice: Choice) -> Option<Move>
+        ensures { MatchOption result
+            (IsAmong (candidates self.now.file self.now.moves) choice → ⊥)
+            (λ m. IsAmong (candidates self.now.file self.now.moves) choice × (m ≡ move_of (phase_of self.now.file self.now.moves) choice)) }
+    {
+        if !is_candidate(&self.file, &self.moves, choice) {
+            return None;
+        }
+        Some(move_of(phase_of(&self.file, &self.moves), choice))
+    }
+
+    /// Adds a move. `WrongPhase` comes exactly where it is no candidate's in the phase; after an
+    /// error the state is as before.
+    pub fn apply(&mut self, alloc: Global, next: Move) -> Result<(), StateFault>
+        ensures added { OnOk result (self.new.moves ≡ self.old.moves ++ next ∷ []) }
+        ensures candidate { OnOk result (IsCandidateMove self.old.file self.old.moves next) }
+        ensures wrong_phase { IfErr result (λ f. f ≡ StateFault.WrongPhase → IsCandidateMove self.old.file self.old.moves next → ⊥) }
+        ensures file { self.new.file ≡ self.old.file }
+        ensures err { OnErr result (self.new ≡ self.old) }
+    {
+        let _ = alloc;
+        if !is_next(&self.file, &self.moves, next) {
+            return Err(StateFault::WrongPhase);
+        }
+        if self.moves.push(next).is_err() {
+            return Err(StateFault::NoMemory);
+        }
+        Ok(())
+    }
+
+    /// Takes off the last ball's move and gives it. `None` exactly where there are no moves. In a
+    /// pairing each ball adds one move. Takes no memory.
+    pub fn undo(&mut self) -> Option<Move>
+        ensures moves { MatchOption result
+            ((self.old.moves ≡ []) × (self.new.moves ≡ []))
+            (λ m. self.old.moves ≡ self.new.moves ++ m ∷ []) }
+        ensures file { self.new.file ≡ self.old.file }
+    {
+        self.moves.pop()
+    }
+
+    /// An equal state. The only error is want of memory.
+    pub fn clone_in(&self, alloc: Global) -> Result<State, NoMemory>
+        ensures { IfOk result (λ s. s ≡ self.now) }
+    {
+        let moves = Vec::from_slice(alloc, &self.moves)?;
+        Ok(State {
+            file: self.file.clone()?,
+            moves,
+        })
+    }
+}
+
+/// Whether the move is a candidate's in the phase after the moves.
+fn is_next(file: &DrawFile, moves: &[Move], next: Move) -> bool
+    ensures yes { result ≡ true → IsCandidateMove file.now moves.now next }
+    ensures no { result ≡ false → IsCandidateMove file.now moves.now next → ⊥ }
+{
+    match choice_of_move(phase_of(file, moves), next) {
+        Some(choice) => is_candidate(file, moves, choice),
+        None => false,
+    }
+}
+
+/// The choice that adds the move in a phase.
+fn choice_of_move(phase: Phase, next: Move) -> Option<Choice>
+    ensures some { IfSome result (λ c. next ≡ move_of phase c) }
+    ensures only { (c : ChoiceValue) → next ≡ move_of phase c → result ≡ Some c }
+{
+    match (phase, next) {
+        (Phase::Runner, Move::Drawn(team)) => Some(Choice::Team(team)),
+        (Phase::Opponent { runner }, Move::Paired(other, winner)) if other == runner => {
+            Some(Choice::Team(winner))
+        }
+        (Phase::Complete, Move::Drawn(team)) => Some(Choice::Team(team)),
+        _ => None,
+    }
+}
