@@ -1,7 +1,7 @@
 ghost use Rattle.std.specs.Prelude.{◌≡◌, [], ◌∷◌, ◌++◌, IfOk, OnOk, OnErr, IfErr, IfSome, MatchOption, true, false, Some};
 ghost use Rattle.draw_tables.specs.declared.moves.Choice.{Choice as ChoiceValue};
-ghost use Rattle.draw_tables.specs.Pots.{IsAmong};
-ghost use Rattle.draw_tables.specs.States.{phase_of, candidates, move_of, IsCandidateMove, IsState};
+ghost use Rattle.draw_tables.specs.Pots.{AreTeamsOf, IsAmong};
+ghost use Rattle.draw_tables.specs.States.{phase_of, candidates, candidate_teams, move_of, IsCandidateMove, IsState};
 
 use crate::NoMemory;
 use crate::judging::choices_of;
@@ -41,6 +41,18 @@ pub enum StateFault {
 }
 
 impl State {
+    /// The state of a draw file without moves. The only error is want of memory.
+    pub fn start(alloc: Global, file: &DrawFile) -> Result<State, NoMemory>
+        ensures file { IfOk result (λ s. s.file ≡ file.now) }
+        ensures moves { IfOk result (λ s. s.moves ≡ []) }
+    {
+        let file = file.clone_in(alloc)?;
+        Ok(State {
+            file: Arc::new(alloc, file)?,
+            moves: Vec::new(alloc),
+        })
+    }
+
     /// The draw file. Takes no memory.
     pub fn file(&self) -> &DrawFile
         ensures file { result.now ≡ self.now.file }
@@ -65,7 +77,8 @@ impl State {
 
     /// The choices that the phase lets come, in file order. The only error is want of memory.
     pub fn candidates(&self, alloc: Global) -> Result<Vec<Choice>, NoMemory>
-        ensures { IfOk result (λ v. v.items ≡ candidates self.now.file self.now.moves) }
+        ensures candidates { IfOk result (λ v. v.items ≡ candidates self.now.file self.now.moves) }
+        ensures teams { IfOk result (λ _. AreTeamsOf self.now.file (candidate_teams self.now.file self.now.moves)) }
     {
         let teams = candidate_teams(alloc, &self.file, &self.moves)?;
         let choices = choices_of(alloc, &teams)?;

@@ -50,8 +50,8 @@ fn read_file(alloc: Global, head: &[u8]) -> Result<DrawFile, FileFault>
 }
 
 /// The answer text of a file and the lines of these bytes.
-fn answer_text(alloc: Global, file: DrawFile, commands: &[u8]) -> Result<Vec<u8>, AllocError>
-    ensures { IfOk result (λ text. IsAnswer file (lines_of commands.now) text.items) }
+fn answer_text(alloc: Global, file: &DrawFile, commands: &[u8]) -> Result<Vec<u8>, AllocError>
+    ensures { IfOk result (λ text. IsAnswer file.now (lines_of commands.now) text.items) }
 {
     let mut turn = Turn::open(alloc, file)?;
     let mut text = opening(alloc, &turn)?;
@@ -105,7 +105,7 @@ fn output_of(alloc: Global, input: &[u8]) -> Result<Output, AllocError>
     let (head, commands) = split_input(input);
     match read_file(alloc, head) {
         Ok(file) => {
-            let text = answer_text(alloc, file, commands)?;
+            let text = answer_text(alloc, &file, commands)?;
             Ok(Output::Answer(text))
         }
         Err(fault) => {

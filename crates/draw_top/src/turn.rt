@@ -1,5 +1,5 @@
 ghost use Rattle.std.specs.Prelude.{◌≡◌, [], ◌∷◌, ◌++◌, IfOk, OnErr};
-ghost use Rattle.draw_tables.specs.States.{phase_of};
+ghost use Rattle.draw_tables.specs.States.{phase_of, IsCandidateMove};
 ghost use Rattle.draw_tables.specs.Offers.{IsOffer};
 ghost use Rattle.draw_state.specs.Commands.{next_line};
 ghost use Rattle.draw_state.specs.Runs.{Step};
@@ -7,18 +7,20 @@ ghost use Rattle.draw_state.specs.declared.replies.Reply.{Reply as ReplyValue};
 ghost use Rattle.draw_top.specs.Rights.{IsRightTurn};
 ghost use Rattle.draw_lines.specs.Texts.{NamesTeams, NamesTeamsInMoves, NamesTeamsInChoices, NamesTeamsInNext};
 
-use draw_state::{Choices, Command, Moves, NextLine, Reply, choices_of, judge_command, next_line};
-use draw_tables::{Choice, Move, candidate_teams, move_of, phase_of};
+use draw_state::{
+    Choices, Command, Moves, NextLine, Reply, State, StateFault, choices_of, judge_command,
+    next_line,
+};
+use draw_tables::{Choice, Move, move_of};
 use pairing_draw::plain_offer;
 use rule_sets::DrawFile;
 use std::alloc::{AllocError, Global};
 use std::marker::Model;
 
-/// A draw file, the moves so far, and their offer, right by its type.
+/// A state of a draw and its offer, right by its type.
 #[derive(Drop)]
 pub struct Turn {
-    file: DrawFile,
-    moves: Vec<Move>,
+    state: State,
     offered: Vec<Choice>,
 }
 
@@ -27,34 +29,30 @@ impl Model for Turn {
 
     ghost Value = { spec.Turn };
 
-    ghost view = { λ t. record { file = t.file; moves = t.moves.items; offered = t.offered.items } };
+    ghost view = { λ t. record { file = t.state.file; moves = t.state.moves; offered = t.offered.items } };
 
     ghost use Rattle.draw_top.specs.Rights.{IsRightTurn};
 
-    ghost invariant = { λ t. IsRightTurn t.file t.moves.items t.offered.items };
+    ghost invariant = { λ t. IsRightTurn t.state.file t.state.moves t.offered.items };
 }
 
 impl Turn {
     /// The state without moves.
-    pub fn open(alloc: Global, file: DrawFile) -> Result<Turn, AllocError>
-        ensures file { IfOk result (λ t. t.file ≡ file) }
+    pub fn open(alloc: Global, file: &DrawFile) -> Result<Turn, AllocError>
+        ensures file { IfOk result (λ t. t.file ≡ file.now) }
         ensures moves { IfOk result (λ t. t.moves ≡ []) }
     {
-        let moves = Vec::new(alloc);
-        let teams = plain_offer(alloc, &file, &moves)?;
-        let offered = choices_of(alloc, &teams)?;
-        Ok(Turn {
-            file,
-            moves,
-            offered,
-        })
+        let state = State::start(alloc, file)?;
+        let possible = plain_offer(alloc, state.file(), state.moves())?;
+        let offered = choices_of(alloc, &possible)?;
+        Ok(Turn { state, offered })
     }
 
     /// The draw file.
     pub fn file(&self) -> &DrawFile
         ensures { result.now ≡ self.now.file }
     {
-        &self.file
+        self.state.file()
     }
 
     /// What comes next.
@@ -63,7 +61,7 @@ impl Turn {
         ensures teams { IfOk result (λ n. NamesTeamsInNext self.now.file n) }
         ensures offer { IsOffer self.now.file self.now.moves self.now.offered }
     {
-        let next = next_after(alloc, &self.file, &self.moves, &self.offered)?;
+        let next = next_after(alloc, &self.state, &self.offered)?;
         Ok(next)
     }
 
@@ -79,11 +77,10 @@ impl Turn {
         ensures file { self.new.file ≡ self.old.file }
         ensures err { OnErr result (self.new ≡ self.old) }
     {
-        let phase = phase_of(&self.file, &self.moves);
-        let teams = candidate_teams(alloc, &self.file, &self.moves)?;
-        let candidates = choices_of(alloc, &teams)?;
+        let phase = self.state.phase();
+        let candidates = self.state.candidates(alloc)?;
         let choice = match judge_command(
-            self.file.teams(),
+            self.state.file().teams(),
             phase,
             &candidates,
             &self.offered,
@@ -95,11 +92,11 @@ impl Turn {
         };
         let step = move_of(phase, choice);
         let Accepted {
-            moves,
+            state,
             offered,
             reply,
-        } = accept(alloc, &self.file, &self.moves, step)?;
-        self.moves = moves;
+        } = accept(alloc, &self.state, step)?;
+        self.state = state;
         self.offered = offered;
         Ok(reply)
     }
@@ -108,33 +105,29 @@ impl Turn {
 /// What an accepted ball leads to.
 #[derive(Drop)]
 struct Accepted {
-    moves: Vec<Move>,
+    state: State,
     offered: Vec<Choice>,
     reply: Reply,
 }
 
-/// What a ball leads to that adds a move after the moves.
-fn accept(
-    alloc: Global,
-    file: &DrawFile,
-    moves: &[Move],
-    step: Move,
-) -> Result<Accepted, AllocError>
-    requires drawn { NamesTeamsInMoves file.now moves.now }
-    requires step { NamesTeamsInMoves file.now (step ∷ []) }
-    ensures moves { IfOk result (λ a. a.moves.items ≡ moves.now ++ step ∷ []) }
-    ensures right { IfOk result (λ a. IsRightTurn file.now a.moves.items a.offered.items) }
-    ensures reply { IfOk result (λ a. a.reply ≡ ReplyValue.Taken (step ∷ []) (next_line (phase_of file.now a.moves.items) a.offered.items)) }
-    ensures teams { IfOk result (λ a. NamesTeams file.now a.reply) }
+/// What a ball leads to that adds a move to the state.
+fn accept(alloc: Global, before: &State, step: Move) -> Result<Accepted, AllocError>
+    requires candidate { IsCandidateMove before.now.file before.now.moves step }
+    requires drawn { NamesTeamsInMoves before.now.file before.now.moves }
+    requires step { NamesTeamsInMoves before.now.file (step ∷ []) }
+    ensures file { IfOk result (λ a. a.state.file ≡ before.now.file) }
+    ensures moves { IfOk result (λ a. a.state.moves ≡ before.now.moves ++ step ∷ []) }
+    ensures right { IfOk result (λ a. IsRightTurn a.state.file a.state.moves a.offered.items) }
+    ensures reply { IfOk result (λ a. a.reply ≡ ReplyValue.Taken (step ∷ []) (next_line (phase_of a.state.file a.state.moves) a.offered.items)) }
+    ensures teams { IfOk result (λ a. NamesTeams before.now.file a.reply) }
 {
-    let mut moves = Vec::from_slice(alloc, moves)?;
-    moves.push(step)?;
-    let teams = plain_offer(alloc, file, &moves)?;
+    let state = state_after(alloc, before, step)?;
+    let teams = plain_offer(alloc, state.file(), state.moves())?;
     let offered = choices_of(alloc, &teams)?;
-    let next = next_after(alloc, file, &moves, &offered)?;
+    let next = next_after(alloc, &state, &offered)?;
     let added = Vec::from_slice(alloc, &[step])?;
     Ok(Accepted {
-        moves,
+        state,
         offered,
         reply: Reply::Taken {
             moves: Moves::new(added),
@@ -143,19 +136,28 @@ fn accept(
     })
 }
 
-/// What comes next after the moves, whose offer this is.
-fn next_after(
-    alloc: Global,
-    file: &DrawFile,
-    moves: &[Move],
-    offered: &[Choice],
-) -> Result<NextLine, AllocError>
-    requires drawn { NamesTeamsInMoves file.now moves.now }
-    requires named { NamesTeamsInChoices file.now offered.now }
-    ensures next { IfOk result (λ n. n ≡ next_line (phase_of file.now moves.now) offered.now) }
-    ensures teams { IfOk result (λ n. NamesTeamsInNext file.now n) }
+/// The state with a candidate's move added.
+fn state_after(alloc: Global, before: &State, step: Move) -> Result<State, AllocError>
+    requires { IsCandidateMove before.now.file before.now.moves step }
+    ensures file { IfOk result (λ s. s.file ≡ before.now.file) }
+    ensures moves { IfOk result (λ s. s.moves ≡ before.now.moves ++ step ∷ []) }
+{
+    let mut state = before.clone_in(alloc)?;
+    match state.apply(alloc, step) {
+        Ok(()) => Ok(state),
+        Err(StateFault::NoMemory) => Err(AllocError),
+        Err(StateFault::WrongPhase) => unreachable!(),
+    }
+}
+
+/// What comes next in a state whose offer this is.
+fn next_after(alloc: Global, state: &State, offered: &[Choice]) -> Result<NextLine, AllocError>
+    requires drawn { NamesTeamsInMoves state.now.file state.now.moves }
+    requires named { NamesTeamsInChoices state.now.file offered.now }
+    ensures next { IfOk result (λ n. n ≡ next_line (phase_of state.now.file state.now.moves) offered.now) }
+    ensures teams { IfOk result (λ n. NamesTeamsInNext state.now.file n) }
 {
     let choices = Vec::from_slice(alloc, offered)?;
-    let next = next_line(phase_of(file, moves), Choices::new(choices));
+    let next = next_line(state.phase(), Choices::new(choices));
     Ok(next)
 }

@@ -5,20 +5,22 @@ use Rattle.draw_top.proofs.turn.accept.Goals as goal
 
 pub next_after-requires-clause-drawn : goal.next_after-requires-clause-drawn
 next_after-requires-clause-drawn c =
-    let all = rw c.in_ok-moves.ensures.items at c.in_ok-push.ensures.items in
-    rw (c.deref-3.ensures.value, all) (moves_named c.args.file.now c.args.moves.now _ c.requires.drawn c.requires.step)
+    rw (c.in_ok-state.ensures.file, c.in_ok-state.ensures.moves) (moves_named c.args.before.now.file c.args.before.now.moves _ c.requires.drawn c.requires.step)
 
 pub next_after-requires-clause-named : goal.next_after-requires-clause-named
 next_after-requires-clause-named c =
-    let chosen : c.in_ok-offered.offered.items ≡ map (λ t. Choice.Team t) c.in_ok-teams.teams.items = rw c.deref-2.ensures.value at c.in_ok-offered.ensures in
-    rw (c.deref-4.ensures.value, chosen) (named_choices c.args.file.now c.in_ok-teams.teams.items c.in_ok-teams.ensures.teams)
+    let teams = c.in_ok-teams.teams.items in
+    let chosen : c.in_ok-offered.offered.items ≡ map (λ t. Choice.Team t) teams = rw c.deref.ensures.value at c.in_ok-offered.ensures in
+    let within = rw c.file.ensures.file at c.in_ok-teams.ensures.teams in
+    rw (c.deref-2.ensures.value, chosen) (named_choices c.in_ok-state.state.file teams within)
 
 pub returns-clause-right : goal.returns-clause-right
 returns-clause-right c =
-    let all = rw c.in_ok-moves.ensures.items at c.in_ok-push.ensures.items in
-    let chosen : c.in_ok-offered.offered.items ≡ map (λ t. Choice.Team t) c.in_ok-teams.teams.items = rw c.deref-2.ensures.value at c.in_ok-offered.ensures in
+    let teams = c.in_ok-teams.teams.items in
+    let chosen : c.in_ok-offered.offered.items ≡ map (λ t. Choice.Team t) teams = rw c.deref.ensures.value at c.in_ok-offered.ensures in
+    let within = rw c.file.ensures.file at c.in_ok-teams.ensures.teams in
     record {
-      offer = rw chosen (rw c.deref.ensures.value at c.in_ok-teams.ensures.offer);
-      drawn = rw all (moves_named c.args.file.now c.args.moves.now _ c.requires.drawn c.requires.step);
-      named = rw chosen (named_choices c.args.file.now c.in_ok-teams.teams.items c.in_ok-teams.ensures.teams);
+      offer = rw chosen (rw (c.file.ensures.file, c.moves.ensures) at c.in_ok-teams.ensures.offer);
+      drawn = rw (c.in_ok-state.ensures.file, c.in_ok-state.ensures.moves) (moves_named c.args.before.now.file c.args.before.now.moves _ c.requires.drawn c.requires.step);
+      named = rw chosen (named_choices c.in_ok-state.state.file teams within);
     }
