@@ -3,13 +3,32 @@
 
 mod candidacy;
 mod candidates;
+mod judging;
+mod laws;
 mod moves;
+mod pair_rule;
+mod pair_table;
 mod pots;
 mod rules;
+mod table;
+mod table_fault;
+mod table_reading;
+mod table_texts;
+mod team_ids;
+mod verdict;
 
 pub use candidacy::is_candidate;
 pub use candidates::{candidate_teams, move_of, phase_of};
+pub use judging::judge;
+pub use laws::{law_legal_where_nothing_broken, law_one_first_broken, law_one_table_of_text};
 pub use moves::{Choice, Move, Phase};
+pub use pair_table::PairTable;
 pub use pots::teams_of_pot;
 pub use rules::may_meet;
 pub use std::alloc::AllocError as NoMemory;
+pub use table::Table;
+pub use table_fault::TableFault;
+pub use table_reading::read_table;
+pub use table_texts::table_text;
+pub use team_ids::TeamIds;
+pub use verdict::Verdict;

@@ -1,7 +1,9 @@
 ghost use Rattle.std.specs.Prelude.{◌≡◌, ◌<◌, true, length, bytes_eq};
 ghost use Rattle.std.specs.List.{list_any};
 ghost use Rattle.draw_tables.specs.Pairings.{KeepRules, have_common_tag, is_pair_of, may_meet};
+ghost use Rattle.draw_tables.specs.Passes.{breaks};
 
+use crate::pair_rule::PairRule;
 use rule_sets::{DrawFile, Pair};
 use team_files::{Tag, Team, TeamId};
 
@@ -19,6 +21,21 @@ pub fn may_meet(file: &DrawFile, runner: TeamId, winner: TeamId) -> bool
     one.group_letter != other.group_letter
         && !have_common_tag(one, other)
         && !is_forbidden(file.pairs(), runner, winner)
+}
+
+/// Whether a runner-up and its winner break a rule.
+pub(crate) fn breaks(file: &DrawFile, rule: PairRule, runner: TeamId, winner: TeamId) -> bool
+    requires runner { runner.0 < length file.now.teams }
+    requires winner { winner.0 < length file.now.teams }
+    ensures { result ≡ breaks file.now rule runner winner }
+{
+    let one = file.teams().get(runner);
+    let other = file.teams().get(winner);
+    match rule {
+        PairRule::Letters => one.group_letter == other.group_letter,
+        PairRule::Tags => have_common_tag(one, other),
+        PairRule::Forbidden => is_forbidden(file.pairs(), runner, winner),
+    }
 }
 
 /// Whether the two teams have a tag in common.

@@ -1,0 +1,42 @@
+-- The text of a table (this project's own).
+use Rattle.std.specs.Prelude.{◌≡◌, ℕ, List, [], ◌∷◌, ◌++◌, Option, Some, None, slice_get}
+use Rattle.team_files.specs.declared.team.Team.{Team}
+use Rattle.team_files.specs.declared.team_id.TeamId.{TeamId}
+use Rattle.rule_sets.specs.Files.{DrawFile, IsWellFormed}
+use Rattle.draw_tables.specs.declared.table.Table.{Table}
+use Rattle.draw_tables.specs.declared.table.Table.TheVariants.{Pairs}
+use Rattle.draw_tables.specs.Tables.{IsTableOf}
+
+abbrev pub code_in : Option Team → List ℕ
+code_in None = []
+code_in (Some team) = team.code
+
+-- a team's code
+abbrev pub code_of : List Team → TeamId → List ℕ
+code_of teams id = code_in (slice_get teams id.0)
+
+-- the codes of the teams, each behind one space
+abbrev pub spaced : List Team → List TeamId → List ℕ
+spaced teams [] = []
+spaced teams (t ∷ ts) = 32 ∷ code_of teams t ++ spaced teams ts
+
+-- the codes of the teams with one space between two, and none at the ends
+abbrev pub codes_text : List Team → List TeamId → List ℕ
+codes_text teams [] = []
+codes_text teams (t ∷ ts) = code_of teams t ++ spaced teams ts
+
+-- The text of a table: in a pairing, for each runner-up in file order, the code of its winner.
+abbrev pub table_text : DrawFile → Table → List ℕ
+table_text file (Pairs pairs) = codes_text file.teams pairs.winners
+
+-- The bytes are the text of this table of the file.
+pub record IsTextOf (file : DrawFile) (table : Table) (bytes : List ℕ) : Type 0 where
+  pub of_file : IsTableOf file table
+  pub text : table_text file table ≡ bytes
+
+-- ---- law
+
+-- Two tables of a file with one text are equal.
+abbrev pub OneTableOfText : Type 0
+OneTableOfText = (file : DrawFile) (one other : Table) (bytes : List ℕ)
+    → IsWellFormed file → IsTextOf file one bytes → IsTextOf file other bytes → one ≡ other

@@ -1,0 +1,110 @@
+ghost use Rattle.std.specs.Prelude.{◌≡◌, ℕ, ◌<◌, ◌^◌, length};
+ghost use Rattle.rule_sets.specs.Forms.{HasForm};
+ghost use Rattle.draw_tables.specs.Pots.{AreTeamsOf, runners_up, winners};
+ghost use Rattle.draw_tables.specs.Passes.{breaks, first_not_once, first_pair};
+ghost use Rattle.draw_tables.specs.Tables.{IsLegal, IsTableOf};
+ghost use Rattle.draw_tables.specs.Verdicts.{IsFirstBroken, times_given};
+
+use crate::pair_rule::PairRule;
+use crate::rules::breaks;
+use crate::table::Table;
+use crate::verdict::Verdict;
+use rule_sets::{DrawFile, law_files_have_form};
+use team_files::TeamId;
+
+/// What the rules of the draw say of a table: that it is legal, or the first case of the first rule
+/// that it breaks. Takes no memory.
+pub fn judge(file: &DrawFile, table: &Table) -> Verdict
+    requires { IsTableOf file.now table.now }
+    ensures legal { result ≡ Verdict.Legal → IsLegal file.now table.now }
+    ensures only_legal { IsLegal file.now table.now → result ≡ Verdict.Legal }
+    ensures broken { (rule first second : ℕ) → result ≡ Verdict.Broken rule first second → IsFirstBroken file.now table.now rule first second }
+{
+    expect_form(file);
+    let Table::Pairs(pairs) = table;
+    let given = pairs.winners();
+    if let Some((winner, times)) = first_not_once(file, given) {
+        return Verdict::Broken {
+            rule: 1,
+            first: winner.0,
+            second: times,
+        };
+    }
+    if let Some(pair) = first_pair(file, given, PairRule::Letters) {
+        return broken_pair(2, pair);
+    }
+    if let Some(pair) = first_pair(file, given, PairRule::Tags) {
+        return broken_pair(3, pair);
+    }
+    if let Some(pair) = first_pair(file, given, PairRule::Forbidden) {
+        return broken_pair(4, pair);
+    }
+    Verdict::Legal
+}
+
+/// What the type of a file says of its form. Does nothing.
+fn expect_form(file: &DrawFile)
+    ensures { HasForm file.now }
+{
+    file.kind();
+    law_files_have_form();
+}
+
+/// That a runner-up and its winner break a rule.
+fn broken_pair(rule: u32, pair: (TeamId, TeamId)) -> Verdict
+    ensures { result ≡ Verdict.Broken rule (pair.0).0 (pair.1).0 }
+{
+    Verdict::Broken {
+        rule,
+        first: pair.0.0,
+        second: pair.1.0,
+    }
+}
+
+/// The first winner that is not given exactly once, with how often it is given.
+fn first_not_once(file: &DrawFile, given: &[TeamId]) -> Option<(TeamId, u32)>
+    requires { length given.now < 2 ^ 32 }
+    ensures { result ≡ first_not_once given.now (winners file.now) }
+{
+    let teams = file.teams();
+    for place in 0..teams.number() {
+        let winner = TeamId(place);
+        if teams.get(winner).pot != 1 {
+            continue;
+        }
+        let times = times_given(given, winner);
+        if times != 1 {
+            return Some((winner, times));
+        }
+    }
+    None
+}
+
+/// How often a team is given.
+fn times_given(given: &[TeamId], team: TeamId) -> u32
+    requires { length given.now < 2 ^ 32 }
+    ensures { result ≡ times_given team given.now }
+{
+    given.iter().filter(|other| **other == team).count() as u32
+}
+
+/// The first runner-up that breaks a rule with its winner, and the winner.
+fn first_pair(file: &DrawFile, given: &[TeamId], rule: PairRule) -> Option<(TeamId, TeamId)>
+    requires { AreTeamsOf file.now given.now }
+    ensures { result ≡ first_pair (breaks file.now rule) (runners_up file.now) given.now }
+{
+    let teams = file.teams();
+    let mut rest = given;
+    for place in 0..teams.number() {
+        let runner = TeamId(place);
+        if teams.get(runner).pot != 2 {
+            continue;
+        }
+        let (winner, others) = rest.split_first()?;
+        if breaks(file, rule, runner, *winner) {
+            return Some((runner, *winner));
+        }
+        rest = others;
+    }
+    None
+}

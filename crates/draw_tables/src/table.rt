@@ -1,0 +1,22 @@
+ghost use Rattle.std.specs.Prelude.{◌≡◌, IfOk};
+
+use crate::pair_table::PairTable;
+use std::alloc::{AllocError, Global};
+
+/// What a completed draw gives.
+#[derive(Drop)]
+pub enum Table {
+    /// The table of a pairing.
+    Pairs(PairTable),
+}
+
+impl Table {
+    /// An equal table. The only error is want of memory.
+    pub fn clone_in(&self, alloc: Global) -> Result<Table, AllocError>
+        ensures { IfOk result (λ table. table ≡ self.now) }
+    {
+        let Table::Pairs(pairs) = self;
+        let winners = pairs.winners.clone_in(alloc)?;
+        Ok(Table::Pairs(PairTable { winners }))
+    }
+}
