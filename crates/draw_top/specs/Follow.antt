@@ -37,13 +37,17 @@ IsRefusalOf input text = (fault : FileFault) × IsFileFault (head_of input) faul
 
 -- ---- what the sink gained, where the source tells what it held
 
+-- a text that is so of what the source held
+abbrev pub Gains : (List ℕ → List ℕ → Type 0) → Option (List ℕ) → Option (List ℕ) → Option (List ℕ) → Type 0
+Gains IsSo left old new = IfSome left (λ input. (text : List ℕ) × IsSo input text × Appends old new text)
+
 -- the answer text of what the source held
 abbrev pub GainsAnswer : Option (List ℕ) → Option (List ℕ) → Option (List ℕ) → Type 0
-GainsAnswer left old new = IfSome left (λ input. (text : List ℕ) × IsAnswerOf input text × Appends old new text)
+GainsAnswer left old new = Gains IsAnswerOf left old new
 
 -- the line of the first fault of what the source held
 abbrev pub GainsRefusal : Option (List ℕ) → Option (List ℕ) → Option (List ℕ) → Type 0
-GainsRefusal left old new = IfSome left (λ input. (text : List ℕ) × IsRefusalOf input text × Appends old new text)
+GainsRefusal left old new = Gains IsRefusalOf left old new
 
 -- some first bytes of what it was to gain
 abbrev pub GainsPart : Option (List ℕ) → Option (List ℕ) → Option (List ℕ) → Type 0

@@ -6,3 +6,5 @@ pub mod Outputs
 pub mod Replies
 pub mod Laws
 pub mod Statuses
+pub mod Check
+pub mod Reports

@@ -10,3 +10,4 @@ status_number Status.ReadFault = 3
 status_number Status.WriteFault = 4
 status_number Status.NoMemory = 5
 status_number Status.TooLong = 6
+status_number Status.NotValid = 7

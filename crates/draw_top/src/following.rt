@@ -1,29 +1,24 @@
-ghost use Rattle.std.specs.Prelude.{◌≡◌, ◌≢◌, ◌≤◌, ◌⊎◌, IfOk, OnOk, IfErr, true, false};
+ghost use Rattle.std.specs.Prelude.{◌≡◌, ◌≢◌, ◌≤◌, ◌⊎◌, IfOk, OnOk, true, false};
 ghost use Rattle.std.specs.Io.KnownBytes.{Appends, Keeps, IsAtEnd};
 ghost use Rattle.draw_ports.specs.Causes.{Rose, AppendsSome};
-ghost use Rattle.rule_sets.specs.Files.{IsFileOf, IsFileFault};
+ghost use Rattle.rule_sets.specs.Files.{IsFileOf};
 ghost use Rattle.draw_lines.specs.Inputs.{lines_of};
 ghost use Rattle.draw_lines.specs.Answers.{IsAnswer};
 ghost use Rattle.draw_lines.specs.Texts.{opening_text};
 ghost use Rattle.draw_state.specs.Commands.{next_line};
 ghost use Rattle.draw_tables.specs.States.{phase_of};
 ghost use Rattle.draw_tables.specs.Offers.{IsOffer};
-ghost use Rattle.draw_top.specs.Faults.{fault_line};
 ghost use Rattle.draw_top.specs.Replies.{IsReplyTo};
 ghost use Rattle.draw_top.specs.Outputs.{IsOutputOf};
 ghost use Rattle.draw_top.specs.Follow.{words_of, IsFollow, usage_line, GainsAnswer, GainsRefusal, GainsPart, FitsLimit, PassesLimit, HoldsFile, HoldsNoFile, TellsTooMuch};
 
-use crate::faults::fault_line;
+use crate::heads::{INPUT_LIMIT, read_file, refusal_line};
 use crate::status::Status;
 use crate::turn::Turn;
 use draw_lines::{first_line, opening_text, read_line, reply_text, split_input};
 use draw_ports::{PortFault, Sink, Source, put_all, read_all};
-use rule_sets::{DrawFile, rules_from};
+use rule_sets::DrawFile;
 use std::alloc::{AllocError, Global};
-use team_files::{FileFault, read_head};
-
-/// At most so many bytes are taken as an input.
-const INPUT_LIMIT: u64 = 4_194_304;
 
 const USAGE: &[u8] = b"usage: draw follow|prove|room|trial N [--workers 1..16]\n";
 
@@ -35,17 +30,6 @@ fn is_follow(words: &[String]) -> bool
     match words {
         [word] => word.as_str() == "follow",
         _ => false,
-    }
-}
-
-/// The draw file of a head, or its first fault.
-fn read_file(alloc: Global, head: &[u8]) -> Result<DrawFile, FileFault>
-    ensures ok { IfOk result (λ file. IsFileOf head.now file) }
-    ensures fault { IfErr result (λ f. f ≢ FileFault.NoMemory → IsFileFault head.now f) }
-{
-    match read_head(alloc, head) {
-        Ok(head) => rules_from(alloc, head),
-        Err(fault) => Err(fault),
     }
 }
 
@@ -115,18 +99,6 @@ fn output_of(alloc: Global, input: &[u8]) -> Result<Output, AllocError>
     }
 }
 
-/// The line of a fault, or want of memory where that is the fault.
-fn refusal_line(alloc: Global, fault: &FileFault) -> Result<Vec<u8>, AllocError>
-    ensures line { IfOk result (λ line. line.items ≡ fault_line fault.now) }
-    ensures fault { OnOk result (fault.now ≢ FileFault.NoMemory) }
-{
-    if let FileFault::NoMemory = fault {
-        return Err(AllocError);
-    }
-    let line = fault_line(alloc, fault)?;
-    Ok(line)
-}
-
 /// Reads an input to its end and writes its answer text, or the line of its head's first fault;
 /// where the words are not `follow` alone it writes the usage line and reads nothing. The order
 /// of the causes is Usage, ReadFault, TooLong, FileRefused.
@@ -162,6 +134,8 @@ pub fn follow<S: Source, K: Sink>(
     ensures too_long { result ≡ Status.TooLong → PassesLimit (S.left src.old) }
     ensures too_long_none { result ≡ Status.TooLong → Keeps (K.wrote out.old) (K.wrote out.new) }
     ensures no_memory_none { result ≡ Status.NoMemory → Keeps (K.wrote out.old) (K.wrote out.new) }
+    // What is judged is `run_check`'s alone.
+    ensures never_judged { result ≢ Status.NotValid }
     // The right words and no fault: by the bytes alone, or no memory.
     ensures complete { IsFollow (words_of words.now) → HoldsFile (S.left src.old)
         → (Rose (S.faults src.old) (S.faults src.new) → ⊥) → (Rose (K.faults out.old) (K.faults out.new) → ⊥)

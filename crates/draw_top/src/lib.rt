@@ -1,8 +1,10 @@
-//! The top call of the program `draw`.
+//! The top calls of the programs `draw` and `drawcheck`.
 #![tactic(auto)]
 
+mod checking;
 mod faults;
 mod following;
+mod heads;
 mod laws;
 mod run;
 mod status;
@@ -10,6 +12,7 @@ mod status;
 mod tests;
 mod turn;
 
+pub use checking::run_check;
 pub use following::follow;
 pub use laws::{law_answer_exists, law_answer_or_refusal, law_one_answer};
 pub use run::run_draw;

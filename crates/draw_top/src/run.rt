@@ -47,6 +47,8 @@ pub fn run_draw<R: Threads + Wait + Sync, S: Source, K: Sink, G: Gate + Sync>(
     ensures too_long { result ≡ Status.TooLong → PassesLimit (S.left src.old) }
     ensures too_long_none { result ≡ Status.TooLong → Keeps (K.wrote out.old) (K.wrote out.new) }
     ensures no_memory_none { result ≡ Status.NoMemory → Keeps (K.wrote out.old) (K.wrote out.new) }
+    // What is judged is `run_check`'s alone.
+    ensures never_judged { result ≢ Status.NotValid }
     // The right words and no fault: by the bytes alone, or no memory.
     ensures complete { IsFollow (words_of words.now) → HoldsFile (S.left src.old)
         → (Rose (S.faults src.old) (S.faults src.new) → ⊥) → (Rose (K.faults out.old) (K.faults out.new) → ⊥)

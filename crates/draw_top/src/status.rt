@@ -17,6 +17,9 @@ pub enum Status {
     NoMemory,
     /// 6: the source held more bytes than are taken.
     TooLong,
+    /// 7: the table is not legal, or there is no table; what is wrong was written. `run_check` alone
+    /// answers so.
+    NotValid,
 }
 
 impl Status {
@@ -34,6 +37,7 @@ impl Status {
             Status::WriteFault => 4,
             Status::NoMemory => 5,
             Status::TooLong => 6,
+            Status::NotValid => 7,
         }
     }
 }
