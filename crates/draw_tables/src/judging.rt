@@ -100,7 +100,9 @@ fn first_pair(file: &DrawFile, given: &[TeamId], rule: PairRule) -> Option<(Team
         if teams.get(runner).pot != 2 {
             continue;
         }
-        let (winner, others) = rest.split_first()?;
+        let Some((winner, others)) = rest.split_first() else {
+            return None;
+        };
         if breaks(file, rule, runner, *winner) {
             return Some((runner, *winner));
         }
