@@ -1,7 +1,7 @@
 -- The teams of a pot stand in the order of their places, each once, and are teams of the file.
 use Rattle.std.proofs.Common.{◌≡◌, ℕ, zero, suc, ◌+◌, ◌<◌, ◌≤◌, Bool, true, false, List, [], ◌∷◌, length, Some, slice_get, cond, arith, refl, ap, ◌∙◌}
 use Rattle.std.specs.Prelude.{◌==◌, if◌then◌else◌, count_by}
-use Rattle.std.proofs.lemmas.List.Sums.{sum_by-cons}
+use Rattle.std.proofs.lemmas.List.Sums.{sum_by-cons, count_by-le-length}
 use Rattle.team_files.specs.declared.team.Team.{Team}
 use Rattle.team_files.specs.declared.team_id.TeamId.{TeamId}
 use Rattle.team_files.specs.Heads.{pot_size}
@@ -66,3 +66,6 @@ size_from pot n (t ∷ ts) =
 -- a pot has as many teams as it is counted to have
 pub pot_length : (pot : ℕ) (file : DrawFile) → length (teams_of_pot pot file) ≡ pot_size pot file.teams
 pot_length pot file = size_from pot 0 file.teams
+
+pub pot_at_most : (pot : ℕ) (file : DrawFile) → length (teams_of_pot pot file) ≤ length file.teams
+pot_at_most pot file = rw (pot_length pot file) (count_by-le-length (λ (t : Team). t.pot == pot) file.teams)

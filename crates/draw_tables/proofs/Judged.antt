@@ -1,21 +1,23 @@
 -- What the passes of a judgement say of the table.
-use Rattle.std.proofs.Common.{◌≡◌, ◌≢◌, ℕ, zero, suc, ◌<◌, ◌≤◌, ◌⊎◌, inl, inr, Bool, true, false, List, length, Some, None, slice_get, arith, refl, sym, ap, ◌∙◌}
+use Rattle.std.proofs.Common.{◌≡◌, ◌≢◌, ℕ, zero, suc, ◌^◌, ◌<◌, ◌≤◌, ◌⊎◌, inl, inr, Bool, true, false, List, length, Some, None, slice_get, arith, refl, sym, ap, ◌∙◌}
 use Rattle.std.proofs.lemmas.Bool.{false_from_ne_true, false≢true}
 use Rattle.team_files.specs.declared.team_id.TeamId.{TeamId}
 use Rattle.rule_sets.specs.Files.{DrawFile}
 use Rattle.rule_sets.specs.Forms.{HasForm}
 use Rattle.draw_tables.specs.declared.table.Table.{Table}
 use Rattle.draw_tables.specs.declared.table.Table.TheVariants.{Pairs}
+use Rattle.draw_tables.specs.declared.verdict.Verdict.{Verdict}
+use Rattle.draw_tables.specs.declared.verdict.Verdict.TheVariants.{Legal, Broken}
 use Rattle.draw_tables.specs.declared.pair_table.PairTable.{PairTable}
 use Rattle.draw_tables.specs.declared.pair_rule.PairRule.{PairRule}
 use Rattle.draw_tables.specs.declared.pair_rule.PairRule.TheVariants.{Letters, Tags, Forbidden}
 use Rattle.draw_tables.specs.Pots.{winners, runners_up, IsAmong}
 use Rattle.draw_tables.specs.Pairings.{GivesOpponent, IsLegalPairing}
 use Rattle.draw_tables.specs.Passes.{breaks, first_not_once, first_pair}
-use Rattle.draw_tables.specs.Tables.{IsTableOf, IsLegal}
+use Rattle.draw_tables.specs.Tables.{IsTableOf, IsLegal, opponents}
 use Rattle.draw_tables.specs.Verdicts.{times_given, team_at, IsNotGivenOnce, HaveOneLetter, HaveOneTag, AreForbidden, IsBrokenPairing, IsBroken, IsFirstBroken, LegalWhereNoneBroken, NoneBrokenWhereLegal, OneFirstBroken}
 use Rattle.draw_tables.proofs.Counts.{same_item}
-use Rattle.draw_tables.proofs.InOrder.{pot_in_order, once}
+use Rattle.draw_tables.proofs.InOrder.{pot_in_order, pot_at_most, once}
 use Rattle.draw_tables.proofs.Cases.{IsFirstNotOnce, IsFirstPair, all_once, found_not_once, no_pair, found_pair, letters_broken, tags_broken, letters_break, tags_break, KeepsRule, legal_by, legal_keeps}
 
 -- ---- laws
@@ -82,10 +84,10 @@ one_first_broken file (Pairs pairs) rule first second r f s a b =
 
 -- ---- what the passes find
 
-abbrev NoneNotOnce : DrawFile → List TeamId → Type 0
+abbrev pub NoneNotOnce : DrawFile → List TeamId → Type 0
 NoneNotOnce file table = first_not_once table (winners file) ≡ None
 
-abbrev NonePairs : DrawFile → List TeamId → PairRule → Type 0
+abbrev pub NonePairs : DrawFile → List TeamId → PairRule → Type 0
 NonePairs file table rule = first_pair (breaks file rule) (runners_up file) table ≡ None
 
 module _ (file : DrawFile) (table : List TeamId) where
@@ -154,3 +156,51 @@ module _ (file : DrawFile) (pairs : PairTable) where
       → NonePairs file pairs.winners Letters → NonePairs file pairs.winners Tags → NonePairs file pairs.winners Forbidden → IsLegal file (Pairs pairs)
   legal_by_passes formed of_file none letters tags forbidden =
       legal_by file pairs.winners formed of_file.size (all_once pairs.winners (winners file) none) (keeps file pairs.winners Letters letters) (keeps file pairs.winners Tags tags) (keeps file pairs.winners Forbidden forbidden)
+
+-- ---- the verdict
+
+pub few : (file : DrawFile) (table : Table) (given : List TeamId) → HasForm file → IsTableOf file table → given ≡ opponents table → length given < 2 ^ 32
+few file table given formed of_file is =
+    let size : length given ≡ length (runners_up file) = rw is of_file.size in
+    let most = pot_at_most 2 file in
+    let limit = formed.few_teams in
+    omega arith
+
+-- the judgement of a broken table, and of a legal one
+pub record IsRight (file : DrawFile) (table : Table) (verdict : Verdict) : Type 0 where
+  pub only_legal : IsLegal file table → verdict ≡ Legal
+  pub broken : (rule first second : ℕ) → verdict ≡ Broken rule first second → IsFirstBroken file table rule first second
+
+right_where_broken : (file : DrawFile) (table : Table) (rule first second : ℕ) (verdict : Verdict) → verdict ≡ Broken rule first second → IsFirstBroken file table rule first second → IsRight file table verdict
+right_where_broken file table rule first second verdict is h = record {
+  only_legal = λ legal. absurd (none_broken_where_legal file table legal rule first second h.broken);
+  broken = λ r f s e.
+      let same = sym is ∙ e in
+      let one : rule ≡ r = cc in
+      let two : first ≡ f = cc in
+      let three : second ≡ s = cc in
+      rw (← one, ← two, ← three) h;
+}
+
+pub right_1 : (file : DrawFile) (table : Table) (given : List TeamId) (found : TeamId × ℕ) (verdict : Verdict) → given ≡ opponents table
+    → first_not_once given (winners file) ≡ Some found → verdict ≡ Broken 1 found.0.0 found.1 → IsRight file table verdict
+right_1 file (Pairs pairs) given (w, n) verdict is e v = right_where_broken file (Pairs pairs) 1 w.0 n verdict v (first_of_rule_1 file pairs w n (rw is at e))
+
+pub right_2 : (file : DrawFile) (table : Table) (given : List TeamId) (pair : TeamId × TeamId) (verdict : Verdict) → given ≡ opponents table → NoneNotOnce file given
+    → first_pair (breaks file Letters) (runners_up file) given ≡ Some pair → verdict ≡ Broken 2 pair.0.0 pair.1.0 → IsRight file table verdict
+right_2 file (Pairs pairs) given (q, w) verdict is none e v = right_where_broken file (Pairs pairs) 2 q.0 w.0 verdict v (first_of_rule_2 file pairs q w (rw is at none) (rw is at e))
+
+pub right_3 : (file : DrawFile) (table : Table) (given : List TeamId) (pair : TeamId × TeamId) (verdict : Verdict) → given ≡ opponents table → NoneNotOnce file given → NonePairs file given Letters
+    → first_pair (breaks file Tags) (runners_up file) given ≡ Some pair → verdict ≡ Broken 3 pair.0.0 pair.1.0 → IsRight file table verdict
+right_3 file (Pairs pairs) given (q, w) verdict is none letters e v =
+    right_where_broken file (Pairs pairs) 3 q.0 w.0 verdict v (first_of_rule_3 file pairs q w (rw is at none) (rw is at letters) (rw is at e))
+
+pub right_4 : (file : DrawFile) (table : Table) (given : List TeamId) (pair : TeamId × TeamId) (verdict : Verdict) → given ≡ opponents table → NoneNotOnce file given → NonePairs file given Letters → NonePairs file given Tags
+    → first_pair (breaks file Forbidden) (runners_up file) given ≡ Some pair → verdict ≡ Broken 4 pair.0.0 pair.1.0 → IsRight file table verdict
+right_4 file (Pairs pairs) given (q, w) verdict is none letters tags e v =
+    right_where_broken file (Pairs pairs) 4 q.0 w.0 verdict v (first_of_rule_4 file pairs q w (rw is at none) (rw is at letters) (rw is at tags) (rw is at e))
+
+pub right_5 : (file : DrawFile) (table : Table) (given : List TeamId) → given ≡ opponents table → HasForm file → IsTableOf file table → NoneNotOnce file given
+    → NonePairs file given Letters → NonePairs file given Tags → NonePairs file given Forbidden → IsLegal file table
+right_5 file (Pairs pairs) given is formed of_file none letters tags forbidden =
+    legal_by_passes file pairs formed of_file (rw is at none) (rw is at letters) (rw is at tags) (rw is at forbidden)
