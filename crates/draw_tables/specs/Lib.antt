@@ -6,3 +6,4 @@ pub mod Tables
 pub mod Verdicts
 pub mod TableTexts
 pub mod Passes
+pub mod Reading

@@ -4,8 +4,7 @@ use Rattle.team_files.specs.declared.team.Team.{Team}
 use Rattle.team_files.specs.declared.team_id.TeamId.{TeamId}
 use Rattle.rule_sets.specs.Files.{DrawFile, IsWellFormed}
 use Rattle.draw_tables.specs.declared.table.Table.{Table}
-use Rattle.draw_tables.specs.declared.table.Table.TheVariants.{Pairs}
-use Rattle.draw_tables.specs.Tables.{IsTableOf}
+use Rattle.draw_tables.specs.Tables.{IsTableOf, opponents}
 
 abbrev pub code_in : Option Team → List ℕ
 code_in None = []
@@ -27,7 +26,7 @@ codes_text teams (t ∷ ts) = code_of teams t ++ spaced teams ts
 
 -- The text of a table: in a pairing, for each runner-up in file order, the code of its winner.
 abbrev pub table_text : DrawFile → Table → List ℕ
-table_text file (Pairs pairs) = codes_text file.teams pairs.winners
+table_text file table = codes_text file.teams (opponents table)
 
 -- The bytes are the text of this table of the file.
 pub record IsTextOf (file : DrawFile) (table : Table) (bytes : List ℕ) : Type 0 where

@@ -21,13 +21,12 @@ pub fn judge(file: &DrawFile, table: &Table) -> Verdict
     ensures broken { (rule first second : ℕ) → result ≡ Verdict.Broken rule first second → IsFirstBroken file.now table.now rule first second }
 {
     expect_form(file);
-    let Table::Pairs(pairs) = table;
-    let given = pairs.winners();
-    if let Some((winner, times)) = first_not_once(file, given) {
+    let given = table.opponents();
+    if let Some(found) = first_not_once(file, given) {
         return Verdict::Broken {
             rule: 1,
-            first: winner.0,
-            second: times,
+            first: found.0.0,
+            second: found.1,
         };
     }
     if let Some(pair) = first_pair(file, given, PairRule::Letters) {
@@ -43,7 +42,7 @@ pub fn judge(file: &DrawFile, table: &Table) -> Verdict
 }
 
 /// What the type of a file says of its form. Does nothing.
-fn expect_form(file: &DrawFile)
+pub(crate) fn expect_form(file: &DrawFile)
     ensures { HasForm file.now }
 {
     file.kind();
@@ -100,7 +99,9 @@ fn first_pair(file: &DrawFile, given: &[TeamId], rule: PairRule) -> Option<(Team
         if teams.get(runner).pot != 2 {
             continue;
         }
-        let (winner, others) = rest.split_first()?;
+        let Some((winner, others)) = rest.split_first() else {
+            return None;
+        };
         if breaks(file, rule, runner, *winner) {
             return Some((runner, *winner));
         }

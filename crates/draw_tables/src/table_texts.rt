@@ -15,9 +15,8 @@ pub fn table_text(alloc: Global, file: &DrawFile, table: &Table) -> Result<Vec<u
     requires { IsTableOf file.now table.now }
     ensures { IfOk result (λ text. text.items ≡ table_text file.now table.now) }
 {
-    let Table::Pairs(pairs) = table;
     let mut text = Vec::new(alloc);
-    add_codes(&mut text, file, pairs.winners())?;
+    add_codes(&mut text, file, table.opponents())?;
     Ok(text)
 }
 
