@@ -1,5 +1,5 @@
 pub mod Alphabet
 pub mod Codes
-pub mod Distinct
+pub mod CodeLaws
 pub mod Elements
 pub mod HeadLaws

@@ -1,4 +1,4 @@
-use Rattle.team_files.proofs.Distinct.{distinct}
+use Rattle.team_files.proofs.CodeLaws.{distinct}
 use Rattle.team_files.proofs.teams.Teams.new.Goals as goal
 
 pub invariant_of-result : goal.invariant_of-result
