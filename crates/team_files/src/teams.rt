@@ -8,7 +8,7 @@ use crate::fault::FileFault;
 use crate::team::Team;
 use crate::team_id::TeamId;
 use indexmap::IndexSet;
-use std::alloc::Global;
+use std::alloc::{AllocError, Global};
 use std::marker::Model;
 
 /// Teams in file order, with distinct codes. Contracts see the list of the teams.
@@ -41,6 +41,22 @@ impl Teams {
     {
         let codes = codes_of(alloc, &teams)?;
         Ok(Teams { teams, codes })
+    }
+
+    /// Equal teams, or want of memory.
+    pub fn clone_in(&self, alloc: Global) -> Result<Teams, AllocError>
+        ensures { IfOk result (λ teams. teams ≡ self.now) }
+    {
+        let all = self.as_slice();
+        let mut teams = Vec::new(alloc);
+        for team in all {
+            teams.push(team.clone_in(alloc)?)?;
+        }
+        match Teams::new(alloc, teams) {
+            Ok(teams) => Ok(teams),
+            // The codes are different here too, so that only memory can fail.
+            Err(_) => Err(AllocError),
+        }
     }
 
     /// The team that has the code, by its place in file order, from 0. `None` exactly where no team
