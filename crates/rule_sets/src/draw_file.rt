@@ -1,12 +1,12 @@
-ghost use Rattle.std.specs.Prelude.{◌≡◌, IfOk};
-ghost use Rattle.rule_sets.specs.Files.{IsWellFormed};
+ghost use Rattle.std.specs.Prelude.{◌≡◌, IfOk, Ok};
+ghost use Rattle.rule_sets.specs.Files.{IsWellFormed, file_of, file_with};
 
 use crate::limit::Limit;
 use crate::pair::Pair;
 use crate::place::Place;
 use std::alloc::Global;
 use std::marker::Model;
-use team_files::{Kind, NoMemory, Teams};
+use team_files::{Head, Kind, NoMemory, Teams};
 
 /// A draw file, well formed by its type: it is the file of some head that has no fault.
 #[derive(Drop)]
@@ -47,27 +47,19 @@ impl Model for DrawFile {
 }
 
 impl DrawFile {
-    /// The file of these parts. Takes no memory.
-    pub(crate) fn new(
-        kind: Kind,
-        groups: u32,
-        pots: u32,
-        teams: Teams,
-        limits: Vec<Limit>,
-        pairs: Vec<Pair>,
-        places: Vec<Place>,
-    ) -> DrawFile
-        requires { IsWellFormed (record { kind = kind; groups = groups; pots = pots; teams = teams; limits = limits.items; pairs = pairs.items; places = places.items }) }
-        ensures { result ≡ record { kind = kind; groups = groups; pots = pots; teams = teams; limits = limits.items; pairs = pairs.items; places = places.items } }
+    /// The file of a head with its pairs looked up. Takes no memory.
+    pub(crate) fn of_pairing(alloc: Global, head: Head, pairs: Vec<Pair>) -> DrawFile
+        requires { file_of head ≡ Ok (file_with head pairs.items) }
+        ensures { result ≡ file_with head pairs.items }
     {
         DrawFile {
-            kind,
-            groups,
-            pots,
-            teams,
-            limits,
+            kind: head.kind(),
+            groups: head.groups(),
+            pots: head.pots(),
+            teams: head.into_teams(),
+            limits: Vec::new(alloc),
             pairs,
-            places,
+            places: Vec::new(alloc),
         }
     }
 

@@ -15,15 +15,7 @@ pub fn rules_from(alloc: Global, head: Head) -> Result<DrawFile, FileFault>
     ensures { Gives result (file_of head) }
 {
     let pairs = pairs_of(alloc, head.teams(), head.pairs())?;
-    Ok(DrawFile::new(
-        head.kind(),
-        head.groups(),
-        head.pots(),
-        head.into_teams(),
-        Vec::new(alloc),
-        pairs,
-        Vec::new(alloc),
-    ))
+    Ok(DrawFile::of_pairing(alloc, head, pairs))
 }
 
 /// The pairs that a head names, or the first that is none.
