@@ -11,16 +11,15 @@ use Rattle.team_files.specs.declared.fields.HeadFields.{HeadFields}
 use Rattle.team_files.specs.declared.team.Team.{Team}
 use Rattle.team_files.specs.declared.team_id.TeamId.{TeamId}
 use Rattle.team_files.specs.declared.head_pair.HeadPair.{HeadPair}
-use Rattle.team_files.specs.declared.head.Head.{Head}
 use Rattle.team_files.specs.Characters.{is_code}
 use Rattle.team_files.specs.Answers.{after}
 use Rattle.team_files.specs.Members.{where_true, text_in, number_in, tags_in, letter_of}
 use Rattle.team_files.specs.Teams.{find_from, find}
-use Rattle.team_files.specs.Heads.{or_wrong, name_in, pot_in, team_fields, all_team_fields, objects_in, pairs_in, head_fields, too_many_fault, team_of, teams_from, pot_size, pot_size_fault, name_of, head_of}
+use Rattle.team_files.specs.Heads.{or_wrong, name_in, pot_in, team_fields, all_team_fields, objects_in, pairs_in, head_fields, too_many_fault, team_of, teams_from, pot_size, pot_size_fault, name_of, Head, head_of}
 use Rattle.team_files.proofs.HeadLaws.{gave, parts, few_pairs}
-use Rattle.team_files.proofs.Distinct.{distinct}
+use Rattle.team_files.proofs.CodeLaws.{distinct}
 use Rattle.rule_sets.specs.declared.pair.Pair.{Pair}
-use Rattle.rule_sets.specs.Files.{team_named, pair_at, pair_of, pairs_from}
+use Rattle.rule_sets.specs.Files.{file_with, team_named, pair_at, pair_of, pairs_from}
 use Rattle.rule_sets.specs.Forms.{IsInPot, NamesTwoTeams, HasForm, FilesHaveForm}
 
 -- ---- the pots
@@ -201,7 +200,7 @@ teams_in_pots d fields teams e h =
     pots 0 objects.0 fields.teams teams (fields_kept (all_team_fields objects.0) (or_wrong (pairs_in d) Field.Pairs) fields objects.2) h
 
 form_of : (d : _) (head : Head) (pairs : List Pair) → head_of d ≡ Ok head → pairs_from head.teams 0 head.pairs ≡ Ok pairs
-    → HasForm (record { kind = head.kind; groups = head.groups; pots = head.pots; teams = head.teams; pairs = pairs })
+    → HasForm (file_with head pairs)
 form_of d head pairs e h =
     let p = parts d head e in
     let fields = p.0 in
@@ -213,6 +212,8 @@ form_of d head pairs e h =
       kind = sym (ap (λ x. x.kind) read.whole);
       groups = sym (ap (λ x. x.groups) read.whole);
       pots = sym (ap (λ x. x.pots) read.whole);
+      limits = refl;
+      places = refl;
       few_teams = rw (teams_size 0 fields.teams head.teams made) (few_teams fields read.few);
       distinct_codes = distinct head.teams (rw teams at read.distinct);
       in_pots = teams_in_pots d fields head.teams read.fields_are made;
@@ -226,5 +227,5 @@ pub files_have_form : FilesHaveForm
 files_have_form file formed =
     let head = formed.0 in
     let made = gave (pairs_from head.teams 0 head.pairs) _ file formed.2 in
-    let is : record { kind = head.kind; groups = head.groups; pots = head.pots; teams = head.teams; pairs = made.0 } ≡ file = cc in
+    let is : file_with head made.0 ≡ file = cc in
     subst HasForm is (form_of formed.1.0 head made.0 formed.1.1 made.1)

@@ -5,13 +5,14 @@ use Rattle.team_files.specs.declared.fault.FileFault.{FileFault}
 use Rattle.team_files.specs.declared.team.Team.{Team}
 use Rattle.team_files.specs.declared.team_id.TeamId.{TeamId}
 use Rattle.team_files.specs.declared.head_pair.HeadPair.{HeadPair}
-use Rattle.team_files.specs.declared.head.Head.{Head}
 use Rattle.team_files.specs.Characters.{is_code}
 use Rattle.team_files.specs.Teams.{find}
 use Rattle.team_files.specs.Answers.{after}
 use Rattle.team_files.specs.Members.{where_true}
-use Rattle.team_files.specs.Heads.{IsReadHead, IsHead, IsHeadFault}
+use Rattle.team_files.specs.Heads.{Head, IsReadHead, IsHead, IsHeadFault}
+use Rattle.rule_sets.specs.declared.limit.Limit.{Limit}
 use Rattle.rule_sets.specs.declared.pair.Pair.{Pair}
+use Rattle.rule_sets.specs.declared.place.Place.{Place}
 
 -- A draw file as contracts see it.
 pub record DrawFile : Type 0 where
@@ -19,7 +20,9 @@ pub record DrawFile : Type 0 where
   pub groups : ℕ
   pub pots : ℕ
   pub teams : List Team
+  pub limits : List Limit
   pub pairs : List Pair
+  pub places : List Place
 
 -- ---- 11 BadPair: the first pair with a text that is no team's code, or with one code twice
 
@@ -43,10 +46,13 @@ pairs_from teams i (p ∷ ps) = after (pair_of teams i p) (λ pair. after (pairs
 
 -- ---- the file of a head, or its first fault
 
+-- the head's file with these pairs; a pairing has no limits and no fixed places
+abbrev pub file_with : Head → List Pair → DrawFile
+file_with head pairs = record { kind = head.kind; groups = head.groups; pots = head.pots; teams = head.teams; limits = []; pairs = pairs; places = [] }
+
 abbrev pub file_of : Head → Result DrawFile FileFault
 file_of head =
-    after (pairs_from head.teams 0 head.pairs) (λ pairs.
-    Ok (record { kind = head.kind; groups = head.groups; pots = head.pots; teams = head.teams; pairs = pairs }))
+    after (pairs_from head.teams 0 head.pairs) (λ pairs. Ok (file_with head pairs))
 
 -- The file is that of some head, so that none of the faults holds of it.
 abbrev pub IsWellFormed : DrawFile → Type 0

@@ -1,5 +1,5 @@
 -- The form of a draw file: what can be read off the file alone.
-use Rattle.std.specs.Prelude.{◌≡◌, ◌≢◌, ◌<◌, ◌≤◌, ◌⊎◌, List, length}
+use Rattle.std.specs.Prelude.{◌≡◌, ◌≢◌, ◌<◌, ◌≤◌, ◌⊎◌, List, [], length}
 use Rattle.std.specs.List.{All}
 use Rattle.team_files.specs.declared.kind.Kind.{Kind}
 use Rattle.team_files.specs.declared.team.Team.{Team}
@@ -20,10 +20,12 @@ pub record NamesTwoTeams (teams : List Team) (pair : Pair) : Type 0 where
 
 -- The form of a draw file.
 pub record HasForm (file : DrawFile) : Type 0 where
-  -- it is of a pairing, which has two pots and no groups
+  -- it is of a pairing, which has two pots, no groups, no limits and no fixed places
   pub kind : file.kind ≡ Kind.Pairing
   pub groups : file.groups ≡ 0
   pub pots : file.pots ≡ 2
+  pub limits : file.limits ≡ []
+  pub places : file.places ≡ []
   -- it has at most 40 teams, and no two have one code
   pub few_teams : length file.teams ≤ 40
   pub distinct_codes : HaveDistinctCodes file.teams

@@ -1,9 +1,12 @@
-ghost use Rattle.std.specs.Prelude.{◌≡◌};
-ghost use Rattle.rule_sets.specs.Files.{IsWellFormed};
+ghost use Rattle.std.specs.Prelude.{◌≡◌, IfOk, Ok};
+ghost use Rattle.rule_sets.specs.Files.{IsWellFormed, file_of, file_with};
 
+use crate::limit::Limit;
 use crate::pair::Pair;
+use crate::place::Place;
+use std::alloc::Global;
 use std::marker::Model;
-use team_files::{Kind, Teams};
+use team_files::{Head, Kind, NoMemory, Teams};
 
 /// A draw file, well formed by its type: it is the file of some head that has no fault.
 #[derive(Drop)]
@@ -12,7 +15,9 @@ pub struct DrawFile {
     groups: u32,
     pots: u32,
     teams: Teams,
+    limits: Vec<Limit>,
     pairs: Vec<Pair>,
+    places: Vec<Place>,
 }
 
 impl Model for DrawFile {
@@ -25,7 +30,9 @@ impl Model for DrawFile {
       groups = f.groups;
       pots = f.pots;
       teams = f.teams;
+      limits = f.limits.items;
       pairs = f.pairs.items;
+      places = f.places.items;
     } };
 
     ghost invariant = { λ f. spec.IsWellFormed (record {
@@ -33,29 +40,48 @@ impl Model for DrawFile {
       groups = f.groups;
       pots = f.pots;
       teams = f.teams;
+      limits = f.limits.items;
       pairs = f.pairs.items;
+      places = f.places.items;
     }) };
 }
 
 impl DrawFile {
-    /// The file of these parts. Takes no memory.
-    pub(crate) fn new(
-        kind: Kind,
-        groups: u32,
-        pots: u32,
-        teams: Teams,
-        pairs: Vec<Pair>,
-    ) -> DrawFile
-        requires { IsWellFormed (record { kind = kind; groups = groups; pots = pots; teams = teams; pairs = pairs.items }) }
-        ensures { result ≡ record { kind = kind; groups = groups; pots = pots; teams = teams; pairs = pairs.items } }
+    /// The file of a head with its pairs looked up. Takes no memory.
+    pub(crate) fn of_pairing(alloc: Global, head: Head, pairs: Vec<Pair>) -> DrawFile
+        requires { file_of head ≡ Ok (file_with head pairs.items) }
+        ensures { result ≡ file_with head pairs.items }
     {
         DrawFile {
-            kind,
-            groups,
-            pots,
-            teams,
+            kind: head.kind(),
+            groups: head.groups(),
+            pots: head.pots(),
+            teams: head.into_teams(),
+            limits: Vec::new(alloc),
             pairs,
+            places: Vec::new(alloc),
         }
+    }
+
+    /// An equal file, or want of memory.
+    pub fn clone_in(&self, alloc: Global) -> Result<DrawFile, NoMemory>
+        ensures { IfOk result (λ file. file ≡ self.now) }
+    {
+        let teams = self.teams.clone_in(alloc)?;
+        let limits = clone_limits(alloc, self.limits.as_slice())?;
+        let mut pairs = Vec::new(alloc);
+        pairs.extend_from_slice(self.pairs.as_slice())?;
+        let mut places = Vec::new(alloc);
+        places.extend_from_slice(self.places.as_slice())?;
+        Ok(DrawFile {
+            kind: self.kind,
+            groups: self.groups,
+            pots: self.pots,
+            teams,
+            limits,
+            pairs,
+            places,
+        })
     }
 
     /// The kind of the draw. Takes no memory.
@@ -87,10 +113,35 @@ impl DrawFile {
         &self.teams
     }
 
+    /// The limits of the tags, in file order; none in a pairing. Takes no memory.
+    pub fn limits(&self) -> &[Limit]
+        ensures { result.now ≡ self.now.limits }
+    {
+        self.limits.as_slice()
+    }
+
     /// The forbidden pairs, in file order. Takes no memory.
     pub fn pairs(&self) -> &[Pair]
         ensures { result.now ≡ self.now.pairs }
     {
         self.pairs.as_slice()
     }
+
+    /// The fixed places, in file order; none in a pairing. Takes no memory.
+    pub fn places(&self) -> &[Place]
+        ensures { result.now ≡ self.now.places }
+    {
+        self.places.as_slice()
+    }
+}
+
+/// Equal limits, or want of memory.
+fn clone_limits(alloc: Global, limits: &[Limit]) -> Result<Vec<Limit>, NoMemory>
+    ensures { IfOk result (λ copies. copies.items ≡ limits.now) }
+{
+    let mut copies = Vec::new(alloc);
+    for limit in limits {
+        copies.push(limit.clone_in(alloc)?)?;
+    }
+    Ok(copies)
 }

@@ -2,9 +2,13 @@
 #![tactic(auto)]
 
 mod draw_file;
+mod limit;
 mod pair;
+mod place;
 mod rules;
 
 pub use draw_file::DrawFile;
+pub use limit::Limit;
 pub use pair::Pair;
+pub use place::Place;
 pub use rules::{law_files_have_form, rules_from};

@@ -1,6 +1,5 @@
 ghost use Rattle.std.specs.Prelude.{◌≡◌, ◌≢◌, ◌≤◌, length, Ok, Err, IfOk, IfErr};
 ghost use Rattle.team_files.specs.Answers.{Gives};
-ghost use Rattle.team_files.specs.Heads.{IsReadHead};
 ghost use Rattle.rule_sets.specs.Files.{file_of, team_named, pair_of, pairs_from};
 ghost use Rattle.rule_sets.specs.Forms.{FilesHaveForm};
 
@@ -13,11 +12,10 @@ use team_files::{Code, FileFault, Head, HeadPair, TeamId, Teams};
 /// from 0, of the first pair that does not name two different teams of the head; else the only
 /// fault is want of memory.
 pub fn rules_from(alloc: Global, head: Head) -> Result<DrawFile, FileFault>
-    requires { IsReadHead head }
     ensures { Gives result (file_of head) }
 {
-    let pairs = pairs_of(alloc, &head.teams, head.pairs.as_slice())?;
-    Ok(DrawFile::new(head.kind, head.groups, head.pots, head.teams, pairs))
+    let pairs = pairs_of(alloc, head.teams(), head.pairs())?;
+    Ok(DrawFile::of_pairing(alloc, head, pairs))
 }
 
 /// The pairs that a head names, or the first that is none.

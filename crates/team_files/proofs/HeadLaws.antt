@@ -5,12 +5,11 @@ use Rattle.std.proofs.lemmas.Bool.Decides.{nat_tests}
 use Rattle.serde_json.specs.Data.{Data}
 use Rattle.team_files.specs.declared.fault.FileFault.{FileFault}
 use Rattle.team_files.specs.declared.fault.Field.{Field}
-use Rattle.team_files.specs.declared.head.Head.{Head}
 use Rattle.team_files.specs.declared.fields.HeadFields.{HeadFields}
 use Rattle.team_files.specs.declared.team.Team.{Team}
 use Rattle.team_files.specs.declared.kind.Kind.{Kind}
 use Rattle.team_files.specs.Answers.{after, unless}
-use Rattle.team_files.specs.Heads.{head_of, IsReadHead, object_fault, kind_fault, missing_fault, head_fields, too_many_fault, teams_from, same_code_fault, pot_size_fault}
+use Rattle.team_files.specs.Heads.{Head, pairing_head, head_of, IsReadHead, object_fault, kind_fault, missing_fault, head_fields, too_many_fault, teams_from, same_code_fault, pot_size_fault}
 
 -- a step with no fault
 pub passed : {A : Type 0} (fault : Option FileFault) (rest : Result A FileFault) (a : A) → unless fault rest ≡ Ok a → (fault ≡ None) × (rest ≡ Ok a)
@@ -32,7 +31,7 @@ pub record Parts (d : Data) (head : Head) (fields : HeadFields) (teams : List Te
   pub teams_are : teams_from 0 fields.teams ≡ Ok teams
   pub distinct : same_code_fault teams ≡ None
   pub sizes : pot_size_fault teams ≡ None
-  pub whole : record { kind = Kind.Pairing; groups = 0; pots = 2; teams = teams; pairs = fields.pairs } ≡ head
+  pub whole : pairing_head teams fields.pairs ≡ head
 
 pub parts : (d : Data) (head : Head) → head_of d ≡ Ok head → (fields : HeadFields) × (teams : List Team) × Parts d head fields teams
 parts d head e =
@@ -68,3 +67,16 @@ few_pairs head read =
   where
     at_most : (fields : HeadFields) → too_many_fault fields ≡ None → length fields.pairs ≤ 64
     at_most fields e = grind (arith, nat_tests)
+
+-- A value that passed each step is that head.
+pub reads : (d : Data) (fields : HeadFields) (teams : List Team)
+    → object_fault d ≡ None → kind_fault d ≡ None → missing_fault d ≡ None → head_fields d ≡ Ok fields → too_many_fault fields ≡ None
+    → after (teams_from 0 fields.teams) (λ all. unless (same_code_fault all) (Ok all)) ≡ Ok teams → pot_size_fault teams ≡ None
+    → head_of d ≡ Ok (pairing_head teams fields.pairs)
+reads d fields teams object kind missing are few made sizes =
+    let t = gave (teams_from 0 fields.teams) _ teams made in
+    let s = passed (same_code_fault t.0) _ teams t.2 in
+    let same : t.0 ≡ teams = cc in
+    let distinct : same_code_fault teams ≡ None = rw (← same) s.0 in
+    let teams_are : teams_from 0 fields.teams ≡ Ok teams = rw (← same) t.1 in
+    rw object (rw kind (rw missing (rw are (rw few (rw teams_are (rw distinct (rw sizes refl)))))))

@@ -1,4 +1,5 @@
 pub mod Alphabet
-pub mod Distinct
+pub mod Codes
+pub mod CodeLaws
 pub mod Elements
 pub mod HeadLaws

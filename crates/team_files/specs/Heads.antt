@@ -10,13 +10,24 @@ use Rattle.team_files.specs.declared.fault.Field.{Field}
 use Rattle.team_files.specs.declared.fault.FileFault.{FileFault}
 use Rattle.team_files.specs.declared.team.Team.{Team}
 use Rattle.team_files.specs.declared.head_pair.HeadPair.{HeadPair}
-use Rattle.team_files.specs.declared.head.Head.{Head}
+use Rattle.team_files.specs.declared.head_limit.HeadLimit.{HeadLimit}
+use Rattle.team_files.specs.declared.head_place.HeadPlace.{HeadPlace}
 use Rattle.team_files.specs.declared.fields.TeamFields.{TeamFields}
 use Rattle.team_files.specs.declared.fields.HeadFields.{HeadFields}
 use Rattle.team_files.specs.Characters.{is_code}
 use Rattle.team_files.specs.Teams.{find_from}
 use Rattle.team_files.specs.Answers.{after, unless}
 use Rattle.team_files.specs.Members.{lacks, is_object, list_of, text_in, list_in, number_in, where_true, letter_of, tags_in}
+
+-- A head as contracts see it.
+pub record Head : Type 0 where
+  pub kind : Kind
+  pub groups : ℕ
+  pub pots : ℕ
+  pub teams : List Team
+  pub limits : List HeadLimit
+  pub pairs : List HeadPair
+  pub places : List HeadPlace
 
 -- ---- 1 NotJson
 
@@ -176,6 +187,10 @@ pot_size_fault teams =
 
 -- ---- the head, or the first of its faults in the order of their numbers
 
+-- a pairing has two pots, no groups, no limits and no fixed places
+abbrev pub pairing_head : List Team → List HeadPair → Head
+pairing_head teams pairs = record { kind = Kind.Pairing; groups = 0; pots = 2; teams = teams; limits = []; pairs = pairs; places = [] }
+
 abbrev pub head_of : Data → Result Head FileFault
 head_of d =
     unless (object_fault d) (
@@ -186,7 +201,7 @@ head_of d =
     after (teams_from 0 fields.teams) (λ teams.
     unless (same_code_fault teams) (
     unless (pot_size_fault teams) (
-    Ok (record { kind = Kind.Pairing; groups = 0; pots = 2; teams = teams; pairs = fields.pairs })))))))))
+    Ok (pairing_head teams fields.pairs)))))))))
 
 -- The head was read of some JSON value, so that none of the faults of a head holds of it.
 abbrev pub IsReadHead : Head → Type 0

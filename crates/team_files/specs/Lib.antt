@@ -3,3 +3,4 @@ pub mod Teams
 pub mod Answers
 pub mod Members
 pub mod Heads
+pub mod Codes

@@ -4,13 +4,12 @@ ghost use Rattle.std.specs.Prelude.{◌≡◌, ◌≤◌, ◌≢◌, length, IfO
 ghost use Rattle.std.specs.Result.{result_err};
 ghost use Rattle.team_files.specs.Answers.{Gives, after, unless};
 ghost use Rattle.team_files.specs.Heads.{too_many_fault, most_teams, team_of, teams_from, same_code_fault, pot_size, pot_size_fault};
-ghost use Rattle.team_files.specs.Teams.{HaveDistinctCodes};
 
 use crate::code::Code;
 use crate::fault::{Field, FileFault};
 use crate::fields::{AllTeamFields, HeadFields, TeamFields};
 use crate::team::Team;
-use crate::teams::{Teams, find_code};
+use crate::teams::Teams;
 use std::alloc::Global;
 
 /// The most teams that a head may have.
@@ -48,8 +47,7 @@ pub(crate) fn teams_of(alloc: Global, all: AllTeamFields) -> Result<Teams, FileF
     ensures { Gives result (after (teams_from 0 all) (λ teams. unless (same_code_fault teams) (Ok teams))) }
 {
     let teams = teams_from(alloc, all.into_vec())?;
-    check_codes(&teams)?;
-    Ok(Teams::new(teams))
+    Teams::new(alloc, teams)
 }
 
 fn teams_from(alloc: Global, all: Vec<TeamFields>) -> Result<Vec<Team>, FileFault>
@@ -87,20 +85,6 @@ fn team_of(place: u32, fields: TeamFields) -> Result<Team, FileFault>
         tags,
         group_letter: Some(group_letter),
     })
-}
-
-/// Refuses the first team whose code an earlier one has.
-fn check_codes(teams: &[Team]) -> Result<(), FileFault>
-    requires { length teams.now ≤ most_teams }
-    ensures fault { result_err result ≡ same_code_fault teams.now }
-    ensures distinct { OnOk result (HaveDistinctCodes teams.now) }
-{
-    for (place, team) in teams.iter().enumerate() {
-        if find_code(&teams[..place], team.code).is_some() {
-            return Err(FileFault::SameCode { code: team.code });
-        }
-    }
-    Ok(())
 }
 
 /// Refuses an empty pot 1, and a pot 2 that is not of its size.

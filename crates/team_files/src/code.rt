@@ -5,7 +5,7 @@ ghost use Rattle.team_files.specs.Characters.{is_code, is_code_character};
 use std::marker::Model;
 
 /// A team's code: three characters A to Z or 0 to 9. Contracts see its bytes.
-#[derive(Clone, Copy, Debug, PartialEq, Eq)]
+#[derive(Clone, Copy, Debug, PartialEq, Eq, Hash)]
 pub struct Code {
     characters: [u8; 3],
 }

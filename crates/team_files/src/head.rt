@@ -1,14 +1,125 @@
-use crate::head_pair::HeadPairs;
+ghost use Rattle.std.specs.Prelude.{◌≡◌, ◌≤◌, length};
+ghost use Rattle.team_files.specs.Heads.{IsReadHead, most_pairs, pairing_head};
+
+use crate::head_limit::{HeadLimit, HeadLimits};
+use crate::head_pair::{HeadPair, HeadPairs};
+use crate::head_place::{HeadPlace, HeadPlaces};
 use crate::kind::Kind;
 use crate::teams::Teams;
+use std::alloc::Global;
+use std::marker::Model;
 
-/// What a head says, before its pairs are looked up: at most 40 teams and at most 64 pairs. `groups`
-/// is 0 and `pots` is 2 in a pairing.
+/// What a head says, before its pairs and its fixed places are looked up. By its type it was read of
+/// a value of which no fault of a head holds: so it has at most 40 teams and at most 64 pairs.
 #[derive(Drop)]
 pub struct Head {
-    pub kind: Kind,
-    pub groups: u32,
-    pub pots: u32,
-    pub teams: Teams,
-    pub pairs: HeadPairs,
+    kind: Kind,
+    groups: u32,
+    pots: u32,
+    teams: Teams,
+    limits: HeadLimits,
+    pairs: HeadPairs,
+    places: HeadPlaces,
+}
+
+impl Model for Head {
+    ghost use Rattle.team_files.specs.Heads as spec;
+
+    ghost Value = { spec.Head };
+
+    ghost view = { λ h. record {
+      kind = h.kind;
+      groups = h.groups;
+      pots = h.pots;
+      teams = h.teams;
+      limits = h.limits;
+      pairs = h.pairs;
+      places = h.places;
+    } };
+
+    ghost invariant = { λ h. spec.IsReadHead (record {
+      kind = h.kind;
+      groups = h.groups;
+      pots = h.pots;
+      teams = h.teams;
+      limits = h.limits;
+      pairs = h.pairs;
+      places = h.places;
+    }) };
+}
+
+impl Head {
+    /// The head of a pairing with these teams and pairs. Takes no memory.
+    pub(crate) fn of_pairing(alloc: Global, teams: Teams, pairs: HeadPairs) -> Head
+        requires { IsReadHead (pairing_head teams pairs) }
+        ensures { result ≡ pairing_head teams pairs }
+    {
+        Head {
+            kind: Kind::Pairing,
+            groups: 0,
+            pots: 2,
+            teams,
+            limits: HeadLimits::new(Vec::new(alloc)),
+            pairs,
+            places: HeadPlaces::new(Vec::new(alloc)),
+        }
+    }
+
+    /// The kind of the draw. Takes no memory.
+    pub fn kind(&self) -> Kind
+        ensures kind { result ≡ self.now.kind }
+        ensures read { IsReadHead self.now }
+    {
+        self.kind
+    }
+
+    /// How many groups there are; 0 in a pairing. Takes no memory.
+    pub fn groups(&self) -> u32
+        ensures { result ≡ self.now.groups }
+    {
+        self.groups
+    }
+
+    /// How many pots there are; 2 in a pairing. Takes no memory.
+    pub fn pots(&self) -> u32
+        ensures { result ≡ self.now.pots }
+    {
+        self.pots
+    }
+
+    /// The teams, in file order. Takes no memory.
+    pub fn teams(&self) -> &Teams
+        ensures { result.now ≡ self.now.teams }
+    {
+        &self.teams
+    }
+
+    /// The limits of the tags, in file order; none in a pairing. Takes no memory.
+    pub fn limits(&self) -> &[HeadLimit]
+        ensures { result.now ≡ self.now.limits }
+    {
+        self.limits.as_slice()
+    }
+
+    /// The forbidden pairs as the head names them, at most 64, in file order. Takes no memory.
+    pub fn pairs(&self) -> &[HeadPair]
+        ensures pairs { result.now ≡ self.now.pairs }
+        ensures few { length result.now ≤ most_pairs }
+    {
+        self.pairs.as_slice()
+    }
+
+    /// The fixed places as the head names them, in file order; none in a pairing. Takes no memory.
+    pub fn places(&self) -> &[HeadPlace]
+        ensures { result.now ≡ self.now.places }
+    {
+        self.places.as_slice()
+    }
+
+    /// The teams, taken out of the head. Takes no memory.
+    pub fn into_teams(self) -> Teams
+        ensures { result ≡ self.teams }
+    {
+        self.teams
+    }
 }

@@ -10,7 +10,6 @@ use crate::checks::{check_lengths, check_pots, teams_of};
 use crate::fault::{Field, FileFault};
 use crate::forms::head_fields;
 use crate::head::Head;
-use crate::kind::Kind;
 use crate::members::{lacks, text_in};
 use crate::missing::check_members;
 use crate::text::Text;
@@ -59,13 +58,7 @@ fn head_of(alloc: Global, value: &Value) -> Result<Head, FileFault>
     check_lengths(&fields)?;
     let teams = teams_of(alloc, fields.teams)?;
     check_pots(&teams)?;
-    Ok(Head {
-        kind: Kind::Pairing,
-        groups: 0,
-        pots: 2,
-        teams,
-        pairs: fields.pairs,
-    })
+    Ok(Head::of_pairing(alloc, teams, fields.pairs))
 }
 
 fn check_object(value: &Value) -> Result<(), FileFault>

@@ -39,7 +39,14 @@ impl Tag {
         Ok(Tag::new(String::from_str(alloc, text)?))
     }
 
-    /// Its bytes.
+    /// An equal tag, or want of memory.
+    pub fn clone_in(&self, alloc: Global) -> Result<Tag, AllocError>
+        ensures { IfOk result (λ tag. tag ≡ self.now) }
+    {
+        Tag::copy(alloc, self.text.as_str())
+    }
+
+    /// Its bytes. Takes no memory.
     pub fn bytes(&self) -> &[u8]
         ensures bytes { result.now ≡ self.now }
         ensures form { is_tag result.now ≡ true }
@@ -70,7 +77,19 @@ impl Tags {
         Tags { tags }
     }
 
-    /// The tags in order.
+    /// Equal tags, or want of memory.
+    pub fn clone_in(&self, alloc: Global) -> Result<Tags, AllocError>
+        ensures { IfOk result (λ tags. tags ≡ self.now) }
+    {
+        let all = self.as_slice();
+        let mut tags = Vec::new(alloc);
+        for tag in all {
+            tags.push(tag.clone_in(alloc)?)?;
+        }
+        Ok(Tags::new(tags))
+    }
+
+    /// The tags in order. Takes no memory.
     pub fn as_slice(&self) -> &[Tag]
         ensures { result.now ≡ self.now }
     {

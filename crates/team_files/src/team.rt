@@ -1,6 +1,9 @@
+ghost use Rattle.std.specs.Prelude.{◌≡◌, IfOk};
+
 use crate::code::Code;
 use crate::tag::Tags;
 use crate::text::Text;
+use std::alloc::{AllocError, Global};
 
 /// A team as its file has it. `pot` counts from 1; in a pairing pot 1 are the winners and pot 2 the
 /// runners-up. There are one or two different tags. `group_letter` is the byte of the letter, A to
@@ -13,4 +16,19 @@ pub struct Team {
     pub pot: u32,
     pub tags: Tags,
     pub group_letter: Option<u8>,
+}
+
+impl Team {
+    /// An equal team, or want of memory.
+    pub fn clone_in(&self, alloc: Global) -> Result<Team, AllocError>
+        ensures { IfOk result (λ team. team ≡ self.now) }
+    {
+        Ok(Team {
+            code: self.code,
+            name: self.name.clone_in(alloc)?,
+            pot: self.pot,
+            tags: self.tags.clone_in(alloc)?,
+            group_letter: self.group_letter,
+        })
+    }
 }

@@ -1,19 +1,26 @@
-ghost use Rattle.std.specs.Prelude.{◌≡◌, ◌<◌, ◌^◌, length, slice_get, Some};
+ghost use Rattle.std.specs.Prelude.{◌≡◌, ◌≢◌, ◌<◌, ◌^◌, length, map, slice_get, Some, None, Ok, IfOk, IfErr};
+ghost use Rattle.team_files.specs.Answers.{Gives, unless};
+ghost use Rattle.team_files.specs.Heads.{same_code_fault};
 ghost use Rattle.team_files.specs.Teams.{AreTeams, find};
 
 use crate::code::Code;
+use crate::fault::FileFault;
 use crate::team::Team;
 use crate::team_id::TeamId;
+use indexmap::IndexSet;
+use std::alloc::{AllocError, Global};
 use std::marker::Model;
 
 /// Teams in file order, with distinct codes. Contracts see the list of the teams.
 #[derive(Drop)]
 pub struct Teams {
     teams: Vec<Team>,
+    /// The teams' codes in file order, by which a code finds its team.
+    codes: IndexSet<Code>,
 }
 
 impl Model for Teams {
-    ghost use Rattle.std.specs.Prelude.{List};
+    ghost use Rattle.std.specs.Prelude.{◌≡◌, List, map};
     ghost use Rattle.team_files.specs.declared.team.Team.{Team};
 
     ghost Value = { List Team };
@@ -22,24 +29,43 @@ impl Model for Teams {
 
     ghost view = { λ t. t.teams.items };
 
-    ghost invariant = { λ t. AreTeams t.teams.items };
+    ghost invariant = { λ t. AreTeams t.teams.items × (t.codes.keys ≡ map (λ team. team.code) t.teams.items) };
 }
 
 impl Teams {
-    /// The teams of a vector, fewer than 2^32 and no two with one code. Takes no memory.
-    pub fn new(teams: Vec<Team>) -> Teams
-        requires { AreTeams teams.items }
-        ensures { result ≡ teams.items }
+    /// The teams of a vector of fewer than 2^32, or `SameCode` with the code of the first team that
+    /// has an earlier one's code. `NoMemory` can come in place of either.
+    pub fn new(alloc: Global, teams: Vec<Team>) -> Result<Teams, FileFault>
+        requires { length teams.items < 2 ^ 32 }
+        ensures { Gives result (unless (same_code_fault teams.items) (Ok teams.items)) }
     {
-        Teams { teams }
+        let codes = codes_of(alloc, &teams)?;
+        Ok(Teams { teams, codes })
+    }
+
+    /// Equal teams, or want of memory.
+    pub fn clone_in(&self, alloc: Global) -> Result<Teams, AllocError>
+        ensures { IfOk result (λ teams. teams ≡ self.now) }
+    {
+        let all = self.as_slice();
+        let mut teams = Vec::new(alloc);
+        for team in all {
+            teams.push(team.clone_in(alloc)?)?;
+        }
+        match Teams::new(alloc, teams) {
+            Ok(teams) => Ok(teams),
+            // The codes are different here too, so that only memory can fail.
+            Err(_) => Err(AllocError),
+        }
     }
 
     /// The team that has the code, by its place in file order, from 0. `None` exactly where no team
-    /// has it. Takes no memory.
+    /// has it. Takes no memory, and does not look through the teams.
     pub fn find(&self, code: Code) -> Option<TeamId>
         ensures { result ≡ find code self.now }
     {
-        find_code(&self.teams, code)
+        let place = self.codes.get_index_of(&code)?;
+        Some(TeamId(place as u32))
     }
 
     /// A team by its place in file order, from 0 to one less than `number`. Takes no memory.
@@ -67,15 +93,18 @@ impl Teams {
     }
 }
 
-/// The first team with the code.
-pub(crate) fn find_code(teams: &[Team], code: Code) -> Option<TeamId>
-    requires { length teams.now < 2 ^ 32 }
-    ensures { result ≡ find code teams.now }
+/// The codes of the teams in order, or the first one that an earlier team has.
+fn codes_of(alloc: Global, teams: &[Team]) -> Result<IndexSet<Code>, FileFault>
+    ensures codes { IfOk result (λ codes. codes.keys ≡ map (λ team. team.code) teams.now) }
+    ensures ok { IfOk result (λ codes. same_code_fault teams.now ≡ None) }
+    ensures fault { IfErr result (λ fault. fault ≢ FileFault.NoMemory → same_code_fault teams.now ≡ Some fault) }
 {
-    for (place, team) in teams.iter().enumerate() {
-        if team.code == code {
-            return Some(TeamId(place as u32));
+    let mut codes = IndexSet::new(alloc);
+    for team in teams {
+        let is_new = codes.insert(team.code)?;
+        if !is_new {
+            return Err(FileFault::SameCode { code: team.code });
         }
     }
-    None
+    Ok(codes)
 }

@@ -145,23 +145,23 @@ fn a_head_is_read(rt: HostRuntime) -> Result<(), Fail> {
     let alloc = rt.alloc();
     let text = format!(in alloc; r#"{{"kind":"pairing","teams":[{FIRST},{SECOND}]}}"#)?;
     let head = read_head(alloc, text.as_bytes())?;
-    assert_eq!(rt; head.kind, Kind::Pairing);
-    assert_eq!(rt; head.groups, 0);
-    assert_eq!(rt; head.pots, 2);
-    assert!(rt; head.pairs.as_slice().is_empty());
-    assert_eq!(rt; head.teams.number(), 2);
+    assert_eq!(rt; head.kind(), Kind::Pairing);
+    assert_eq!(rt; head.groups(), 0);
+    assert_eq!(rt; head.pots(), 2);
+    assert!(rt; head.pairs().is_empty());
+    assert_eq!(rt; head.teams().number(), 2);
     for (place, code, pot, tag, letter) in [(0, "AAA", 1, "X", b'A'), (1, "BBB", 2, "Y", b'B')] {
-        let team = head.teams.get(TeamId(place));
+        let team = head.teams().get(TeamId(place));
         assert!(rt; team.code.text() == code);
         assert!(rt; team.name.bytes() == code.as_bytes());
         assert_eq!(rt; team.pot, pot);
         assert_eq!(rt; team.tags.as_slice().len(), 1);
         assert!(rt; team.tags.as_slice()[0].bytes() == tag.as_bytes());
         assert_eq!(rt; team.group_letter, Some(letter));
-        assert_eq!(rt; head.teams.find(team.code), Some(TeamId(place)));
+        assert_eq!(rt; head.teams().find(team.code), Some(TeamId(place)));
     }
     let other = Code::read("CCC".as_bytes()).ok_or("no code")?;
-    assert_eq!(rt; head.teams.find(other), None);
+    assert_eq!(rt; head.teams().find(other), None);
     Ok(())
 }
 
@@ -174,14 +174,14 @@ const RICH: &str =
 #[test]
 fn a_rich_head_is_read(rt: HostRuntime) -> Result<(), Fail> {
     let head = read_head(rt.alloc(), RICH.as_bytes())?;
-    assert_eq!(rt; head.teams.number(), 2);
-    let first = head.teams.get(TeamId(0));
+    assert_eq!(rt; head.teams().number(), 2);
+    let first = head.teams().get(TeamId(0));
     assert!(rt; first.name.bytes() == "Ajax".as_bytes());
     assert_eq!(rt; first.tags.as_slice().len(), 2);
     assert!(rt; first.tags.as_slice()[1].bytes() == "Y".as_bytes());
-    assert_eq!(rt; head.teams.get(TeamId(1)).pot, 2);
-    assert_eq!(rt; head.pairs.as_slice().len(), 1);
-    assert!(rt; head.pairs.as_slice()[0].first.bytes() == "AAA".as_bytes());
-    assert!(rt; head.pairs.as_slice()[0].second.bytes() == "CCC".as_bytes());
+    assert_eq!(rt; head.teams().get(TeamId(1)).pot, 2);
+    assert_eq!(rt; head.pairs().len(), 1);
+    assert!(rt; head.pairs()[0].first.bytes() == "AAA".as_bytes());
+    assert!(rt; head.pairs()[0].second.bytes() == "CCC".as_bytes());
     Ok(())
 }

@@ -32,7 +32,14 @@ impl Text {
         Ok(Text::new(String::from_str(alloc, text)?))
     }
 
-    /// Its bytes.
+    /// An equal text, or want of memory.
+    pub fn clone_in(&self, alloc: Global) -> Result<Text, AllocError>
+        ensures { IfOk result (λ text. text ≡ self.now) }
+    {
+        Text::copy(alloc, self.text.as_str())
+    }
+
+    /// Its bytes. Takes no memory.
     pub fn bytes(&self) -> &[u8]
         ensures { result.now ≡ self.now }
     {

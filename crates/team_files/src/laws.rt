@@ -1,0 +1,16 @@
+//! What the definitions of the contracts come to, in the subject's own words. None of these does
+//! anything.
+
+ghost use Rattle.team_files.specs.Codes.{FindsByCode, TellsSameCode};
+
+/// Where codes are different, a code finds exactly the team that has it, and none exactly where no
+/// team has it. Does nothing.
+pub fn law_find_by_code()
+    ensures { FindsByCode }
+{}
+
+/// `SameCode` names the code at the first place whose code stands before it, and comes exactly
+/// where some code stands twice. Does nothing.
+pub fn law_same_code()
+    ensures { TellsSameCode }
+{}
