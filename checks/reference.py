@@ -1,4 +1,4 @@
-"""The answer of `draw follow`, found without the program's methods.
+"""The answers of `draw follow` and `drawcheck judge`, found without the programs' methods.
 
 A reader of heads, lines and commands of its own, and the offer by trying every one-to-one map from
 runners-up to winners. It shares nothing with the proved program but the rules in docs/DEFINITIONS.md.
@@ -199,15 +199,16 @@ class File:
             if first not in codes or second not in codes or first == second:
                 raise Refused(f"11 BadPair {place}")
         self.codes = set(codes)
-        by_code = {team["code"]: team for team in self.teams}
-        forbidden = {frozenset(pair) for pair in pairs}
+        self.places = {code: place for place, code in enumerate(codes)}
+        self.forbidden = {frozenset(pair) for pair in pairs}
+        self.by_code = {team["code"]: team for team in self.teams}
         self.allowed = {
             (r, w)
             for r in self.runners
             for w in self.winners
-            if by_code[r]["group"] != by_code[w]["group"]
-            and not set(by_code[r]["tags"]) & set(by_code[w]["tags"])
-            and frozenset((r, w)) not in forbidden
+            if self.by_code[r]["group"] != self.by_code[w]["group"]
+            and not set(self.by_code[r]["tags"]) & set(self.by_code[w]["tags"])
+            and frozenset((r, w)) not in self.forbidden
         }
         self.tables = [
             dict(zip(self.runners, winners))
@@ -321,3 +322,43 @@ def follow(data):
     for answered, line in enumerate(lines):
         text += reply(state, answered, line)
     return 0, ("\n".join(text) + "\n").encode()
+
+
+def verdict(file, table):
+    """What the rules say of a table, which gives each runner-up a team by its code."""
+    for winner in file.winners:
+        times = table.count(winner)
+        if times != 1:
+            return f"broken 1 {file.places[winner]} {times}"
+    pairs = [(file.by_code[runner], file.by_code[team]) for runner, team in zip(file.runners, table)]
+    rules = (
+        (2, lambda one, other: one["group"] == other["group"]),
+        (3, lambda one, other: any(tag in other["tags"] for tag in one["tags"])),
+        (4, lambda one, other: frozenset((one["code"], other["code"])) in file.forbidden),
+    )
+    for rule, breaks in rules:
+        for one, other in pairs:
+            if breaks(one, other):
+                return f"broken {rule} {file.places[one['code']]} {file.places[other['code']]}"
+    return "legal"
+
+
+def judge(data):
+    """The status and the output of `drawcheck judge` on this input."""
+    if len(data) > LIMIT:
+        return 6, b""
+    head, lines = split_input(data)
+    try:
+        value = read_json(head)
+        if not isinstance(value, dict):
+            raise Refused("2 NotObject")
+        file = File(value)
+    except Refused as refused:
+        return 2, f"file refused {refused}\n".encode()
+    if len(lines) != 1:
+        return 7, b"not a table\n"
+    table = lines[0].decode("latin-1").split(" ")
+    if len(table) != len(file.runners) or any(code not in file.codes for code in table):
+        return 7, b"not a table\n"
+    told = verdict(file, table)
+    return 0 if told == "legal" else 7, f"{told}\n".encode()

@@ -1,7 +1,6 @@
 -- The answer text is a function of the input.
 use Rattle.std.proofs.Common.{◌≡◌, ℕ, ◌+◌, List, [], ◌∷◌, ◌++◌, map, refl, sym, ◌∙◌, subst, Ok}
-use Rattle.team_files.specs.declared.head.Head.{Head}
-use Rattle.team_files.specs.Heads.{head_of as read_head}
+use Rattle.team_files.specs.Heads.{Head, head_of as read_head}
 use Rattle.rule_sets.specs.Files.{DrawFile, file_of, IsFileOf}
 use Rattle.draw_tables.specs.declared.moves.Move.{Move}
 use Rattle.draw_tables.specs.declared.moves.Choice.{Choice}

@@ -3,8 +3,7 @@ use Rattle.std.proofs.Common.{◌≡◌, ℕ, List, [], ◌++◌, Option, Some, 
 use Rattle.std.specs.Io.KnownBytes.{Consumes, IsAtEnd, Appends}
 use Rattle.draw_ports.specs.Causes.{AppendsSome}
 use Rattle.team_files.specs.declared.fault.FileFault.{FileFault}
-use Rattle.team_files.specs.declared.head.Head.{Head}
-use Rattle.team_files.specs.Heads.{head_of as read_head}
+use Rattle.team_files.specs.Heads.{Head, head_of as read_head}
 use Rattle.rule_sets.specs.Files.{DrawFile, file_of, IsFileOf, IsFileFault}
 use Rattle.draw_lines.specs.Inputs.{head_of}
 use Rattle.draw_top.specs.Follow.{IsAnswerOf, IsRefusalOf, GainsAnswer, GainsRefusal, GainsPart, HoldsFile, HoldsNoFile, TellsTooMuch, input_limit}
