@@ -1,5 +1,5 @@
 -- Half of the teams of a file are runners-up, at least one.
-use Rattle.std.proofs.Common.{◌≡◌, ℕ, ◌+◌, ◌*◌, ◌≤◌, ◌≢◌, ◌⊎◌, inl, inr, suc, List, [], ◌∷◌, length, cond, arith, refl, sym, ap, ◌∙◌}
+use Rattle.std.proofs.Common.{◌≡◌, ℕ, ◌+◌, ◌*◌, ◌≤◌, ◌≢◌, inl, inr, List, [], ◌∷◌, length, cond, arith, refl}
 use Rattle.std.specs.Prelude.{◌==◌}
 use Rattle.std.specs.List.{All}
 use Rattle.std.proofs.lemmas.List.Sums.{sum_by-cons}

@@ -1,5 +1,5 @@
 -- A table is read of its text, and of no other table's.
-use Rattle.std.proofs.Common.{◌≡◌, ℕ, zero, suc, ◌+◌, ◌≤◌, List, [], ◌∷◌, ◌++◌, length, Option, Some, None, arith, refl, sym, ap, ◌∙◌}
+use Rattle.std.proofs.Common.{◌≡◌, ℕ, zero, suc, ◌+◌, ◌≤◌, List, [], ◌∷◌, ◌++◌, length, Option, Some, None, arith, sym, ap, ◌∙◌}
 use Rattle.std.specs.Prelude.{option_map}
 use Rattle.team_files.specs.declared.team_id.TeamId.{TeamId}
 use Rattle.rule_sets.specs.Files.{DrawFile, IsWellFormed}
@@ -8,7 +8,6 @@ use Rattle.draw_tables.specs.declared.pair_table.PairTable.{PairTable}
 use Rattle.draw_tables.specs.declared.table.Table.{Table}
 use Rattle.draw_tables.specs.declared.table.Table.TheVariants.{Pairs}
 use Rattle.draw_tables.specs.Pots.{runners_up, AreTeamsOf}
-use Rattle.draw_tables.specs.Tables.{IsTableOf}
 use Rattle.draw_tables.specs.TableTexts.{IsTextOf, OneTableOfText}
 use Rattle.draw_tables.specs.Reading.{teams_in}
 use Rattle.draw_tables.proofs.Counts.{same_item}
@@ -41,9 +40,12 @@ pub no_text : (file : DrawFile) (table : Table) (more : ℕ) (bytes : List ℕ) 
 no_text file (Pairs pairs) more bytes formed form size none h = let some = text_gives file pairs more bytes formed form size h in cc
 
 -- the list that was read, in a vector that was empty before
-pub read_first : (ts : List TeamId) (o : Option (List TeamId)) → option_map (λ us. [] ++ us) o ≡ Some ts → o ≡ Some ts
-read_first ts None e = cc
-read_first ts (Some us) e = e
+pub read_first : (front ts : List TeamId) (o : Option (List TeamId)) → front ≡ [] → option_map (λ us. front ++ us) o ≡ Some ts → o ≡ Some ts
+read_first front ts o none e = go o (rw none at e)
+  where
+    go : (o : Option (List TeamId)) → option_map (λ us. [] ++ us) o ≡ Some ts → o ≡ Some ts
+    go None f = cc
+    go (Some us) f = f
 
 one_before : (n : ℕ) → 1 ≤ n → (m : ℕ) × (m + 1 ≡ n)
 one_before zero le = absurd (omega arith)

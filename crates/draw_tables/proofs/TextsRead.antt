@@ -1,6 +1,6 @@
 -- What is read of a text has that text, and what has a text is read of it.
-use Rattle.std.proofs.Common.{◌≡◌, ◌≢◌, ℕ, zero, suc, ◌+◌, ◌-◌, ◌<◌, ◌≤◌, ◌⊎◌, inl, inr, Bool, true, false, List, [], ◌∷◌, ◌++◌, length, take, drop, Option, Some, None, slice_get, arith, refl, sym, ap, ◌∙◌}
-use Rattle.std.specs.Prelude.{◌==◌, ◌&&◌, if◌then◌else◌, bytes_eq, option_map, option_and_then}
+use Rattle.std.proofs.Common.{◌≡◌, ℕ, zero, suc, ◌+◌, ◌<◌, Bool, true, false, List, [], ◌∷◌, ◌++◌, length, take, drop, Option, Some, None, slice_get, arith, refl, sym, ap, ◌∙◌}
+use Rattle.std.specs.Prelude.{◌==◌, if◌then◌else◌, bytes_eq, option_map, option_and_then}
 use Rattle.std.specs.List.{list_all}
 use Rattle.std.proofs.lemmas.Bool.{and_parts}
 use Rattle.std.proofs.lemmas.Slice.Eq.{bytes_eq-Decides}
@@ -8,7 +8,7 @@ use Rattle.team_files.specs.declared.team.Team.{Team}
 use Rattle.team_files.specs.declared.team_id.TeamId.{TeamId}
 use Rattle.team_files.specs.Characters.{is_code, is_code_character}
 use Rattle.team_files.specs.Teams.{find, find_from, HaveDistinctCodes}
-use Rattle.draw_tables.specs.Reading.{team_coded, front_team, spaced_team, spaced_teams, teams_in}
+use Rattle.draw_tables.specs.Reading.{front_team, spaced_team, spaced_teams, teams_in}
 use Rattle.draw_tables.specs.TableTexts.{code_in, code_of, spaced, codes_text}
 use Rattle.draw_tables.proofs.Counts.{same_item, same_by_test}
 use Rattle.draw_tables.proofs.CodeForms.{HaveCodes}
