@@ -14,6 +14,8 @@ mod table_fault;
 mod table_reading;
 mod table_texts;
 mod team_ids;
+#[cfg(test)]
+mod tests;
 mod verdict;
 
 pub use candidates::{candidate_teams, move_of, phase_of};
