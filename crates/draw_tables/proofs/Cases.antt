@@ -1,19 +1,19 @@
 -- The cases of broken rules of a pairing table: what the passes find, and legal tables.
-use Rattle.std.proofs.Common.{◌≡◌, ◌≢◌, ℕ, zero, suc, ◌+◌, ◌<◌, ◌≤◌, ◌⊎◌, inl, inr, Bool, true, false, List, [], ◌∷◌, length, Option, Some, None, slice_get, arith, refl, sym, ap, ◌∙◌}
+use Rattle.std.proofs.Common.{◌≡◌, ◌≢◌, ℕ, zero, suc, ◌≤◌, inl, inr, Bool, true, false, List, [], ◌∷◌, length, Option, Some, None, slice_get, arith, refl, sym, ap, ◌∙◌}
 use Rattle.std.specs.Prelude.{◌==◌, if◌then◌else◌}
-use Rattle.std.proofs.lemmas.Bool.{false_from_ne_true, false≢true}
+use Rattle.std.proofs.lemmas.Bool.{false≢true}
 use Rattle.team_files.specs.declared.team.Team.{Team}
 use Rattle.team_files.specs.declared.team_id.TeamId.{TeamId}
 use Rattle.rule_sets.specs.Files.{DrawFile}
 use Rattle.rule_sets.specs.Forms.{HasForm}
 use Rattle.draw_tables.specs.declared.pair_rule.PairRule.{PairRule}
 use Rattle.draw_tables.specs.declared.pair_rule.PairRule.TheVariants.{Letters, Tags, Forbidden}
-use Rattle.draw_tables.specs.Pots.{winners, runners_up, IsTeam, IsAmong}
-use Rattle.draw_tables.specs.Pairings.{GivesOpponent, IsLegalPairing, have_same_letter, have_common_tag, is_forbidden}
+use Rattle.draw_tables.specs.Pots.{winners, runners_up, IsAmong}
+use Rattle.draw_tables.specs.Pairings.{GivesOpponent, IsLegalPairing, have_same_letter, have_common_tag}
 use Rattle.draw_tables.specs.Passes.{both, breaks, first_not_once, first_pair}
-use Rattle.draw_tables.specs.Verdicts.{times_given, team_at, IsNotGivenOnce, HaveOneLetter, HaveOneTag, AreForbidden, IsBrokenPairing}
+use Rattle.draw_tables.specs.Verdicts.{times_given, team_at, HaveOneLetter, HaveOneTag, IsBrokenPairing}
 use Rattle.draw_tables.proofs.Counts.{same_item, same_by_test, apart_by_test, given_at, once_at, counts_once}
-use Rattle.draw_tables.proofs.InOrder.{IsInOrder, pot_in_order, pot_length, pot_team, once}
+use Rattle.draw_tables.proofs.InOrder.{IsInOrder, pot_in_order, pot_length}
 use Rattle.draw_tables.proofs.Pigeonhole.{nobody_else}
 
 -- ---- rule 1

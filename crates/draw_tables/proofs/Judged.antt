@@ -1,5 +1,5 @@
 -- What the passes of a judgement say of the table.
-use Rattle.std.proofs.Common.{◌≡◌, ◌≢◌, ℕ, zero, suc, ◌^◌, ◌<◌, ◌≤◌, ◌⊎◌, inl, inr, Bool, true, false, List, length, Some, None, slice_get, arith, refl, sym, ap, ◌∙◌}
+use Rattle.std.proofs.Common.{◌≡◌, ◌≢◌, ℕ, zero, suc, ◌^◌, ◌<◌, ◌≤◌, ◌⊎◌, inl, inr, List, length, Some, None, slice_get, arith, refl, sym, ap, ◌∙◌}
 use Rattle.std.proofs.lemmas.Bool.{false_from_ne_true, false≢true}
 use Rattle.team_files.specs.declared.team_id.TeamId.{TeamId}
 use Rattle.rule_sets.specs.Files.{DrawFile}
@@ -11,11 +11,11 @@ use Rattle.draw_tables.specs.declared.verdict.Verdict.TheVariants.{Legal, Broken
 use Rattle.draw_tables.specs.declared.pair_table.PairTable.{PairTable}
 use Rattle.draw_tables.specs.declared.pair_rule.PairRule.{PairRule}
 use Rattle.draw_tables.specs.declared.pair_rule.PairRule.TheVariants.{Letters, Tags, Forbidden}
-use Rattle.draw_tables.specs.Pots.{winners, runners_up, IsAmong}
-use Rattle.draw_tables.specs.Pairings.{GivesOpponent, IsLegalPairing}
+use Rattle.draw_tables.specs.Pots.{winners, runners_up}
+use Rattle.draw_tables.specs.Pairings.{GivesOpponent}
 use Rattle.draw_tables.specs.Passes.{breaks, first_not_once, first_pair}
 use Rattle.draw_tables.specs.Tables.{IsTableOf, IsLegal, opponents}
-use Rattle.draw_tables.specs.Verdicts.{times_given, team_at, IsNotGivenOnce, HaveOneLetter, HaveOneTag, AreForbidden, IsBrokenPairing, IsBroken, IsFirstBroken, LegalWhereNoneBroken, NoneBrokenWhereLegal, OneFirstBroken}
+use Rattle.draw_tables.specs.Verdicts.{times_given, team_at, IsNotGivenOnce, HaveOneLetter, HaveOneTag, IsBrokenPairing, IsFirstBroken, LegalWhereNoneBroken, NoneBrokenWhereLegal, OneFirstBroken}
 use Rattle.draw_tables.proofs.Counts.{same_item}
 use Rattle.draw_tables.proofs.InOrder.{pot_in_order, pot_at_most, once}
 use Rattle.draw_tables.proofs.Cases.{IsFirstNotOnce, IsFirstPair, all_once, found_not_once, no_pair, found_pair, letters_broken, tags_broken, letters_break, tags_break, KeepsRule, legal_by, legal_keeps}

@@ -6,4 +6,9 @@ pub mod Pigeonhole
 pub mod Passing
 pub mod Cases
 pub mod Judged
+pub mod Items
+pub mod CodeForms
+pub mod TextsRead
+pub mod Halves
+pub mod TablesRead
 pub mod Among

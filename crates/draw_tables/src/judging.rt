@@ -1,4 +1,5 @@
 ghost use Rattle.std.specs.Prelude.{◌≡◌, ℕ, ◌<◌, ◌^◌, length};
+ghost use Rattle.rule_sets.specs.Files.{IsWellFormed};
 ghost use Rattle.rule_sets.specs.Forms.{HasForm};
 ghost use Rattle.draw_tables.specs.Pots.{AreTeamsOf, runners_up, winners};
 ghost use Rattle.draw_tables.specs.Passes.{breaks, first_not_once, first_pair};
@@ -43,7 +44,8 @@ pub fn judge(file: &DrawFile, table: &Table) -> Verdict
 
 /// What the type of a file says of its form. Does nothing.
 pub(crate) fn expect_form(file: &DrawFile)
-    ensures { HasForm file.now }
+    ensures formed { IsWellFormed file.now }
+    ensures form { HasForm file.now }
 {
     file.kind();
     law_files_have_form();

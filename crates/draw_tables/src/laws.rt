@@ -1,6 +1,8 @@
 ghost use Rattle.draw_tables.specs.Verdicts.{LegalWhereNoneBroken, NoneBrokenWhereLegal, OneFirstBroken};
 ghost use Rattle.draw_tables.specs.TableTexts.{OneTableOfText};
 
+use rule_sets::law_files_have_form;
+
 /// A table of a file is legal exactly where it breaks no rule. Does nothing.
 pub fn law_legal_where_nothing_broken()
     ensures legal { LegalWhereNoneBroken }
@@ -17,4 +19,6 @@ pub fn law_one_first_broken()
 /// written. Does nothing.
 pub fn law_one_table_of_text()
     ensures { OneTableOfText }
-{}
+{
+    law_files_have_form();
+}

@@ -15,6 +15,8 @@ mod table_fault;
 mod table_reading;
 mod table_texts;
 mod team_ids;
+#[cfg(test)]
+mod tests;
 mod verdict;
 
 pub use candidacy::is_candidate;

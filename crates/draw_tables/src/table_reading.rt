@@ -19,6 +19,7 @@ pub fn read_table(alloc: Global, file: &DrawFile, bytes: &[u8]) -> Result<Table,
     ensures ok { IfOk result (λ table. IsTextOf file.now table bytes.now) }
     ensures not_table { result ≡ Err TableFault.NotTable → (table : Table) → IsTextOf file.now table bytes.now → ⊥ }
 {
+    expect_form(file);
     let more = runners_after_first(file);
     let mut winners = Vec::new(alloc);
     read_teams(&mut winners, file.teams(), more, bytes)?;
@@ -49,7 +50,8 @@ fn read_teams(
     if found.push(team).is_err() {
         return Err(TableFault::NoMemory);
     }
-    read_spaced(found, teams, more, &bytes[3..])
+    let (_, rest) = bytes.split_at(3);
+    read_spaced(found, teams, more, rest)
 }
 
 /// Reads so many teams' codes, each behind one space, up to the end.
@@ -70,7 +72,8 @@ fn read_spaced(
         if found.push(team).is_err() {
             return Err(TableFault::NoMemory);
         }
-        rest = &rest[4..];
+        let (_, others) = rest.split_at(4);
+        rest = others;
     }
     if !rest.is_empty() {
         return Err(TableFault::NotTable);

@@ -1,4 +1,4 @@
 use Rattle.draw_tables.proofs.judging.expect_form.Goals as goal
 
-pub returns : goal.returns
-returns c = c.law_files_have_form.ensures c.args.file.now c.kind.ensures.formed
+pub returns-clause-form : goal.returns-clause-form
+returns-clause-form c = c.law_files_have_form.ensures c.args.file.now c.kind.ensures.formed

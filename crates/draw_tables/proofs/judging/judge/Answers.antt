@@ -3,7 +3,7 @@ use Rattle.draw_tables.proofs.Judged.{few, right_1, right_2, right_3, right_4, r
 use Rattle.draw_tables.proofs.judging.judge.Goals as goal
 
 pub first_not_once-requires : goal.first_not_once-requires
-first_not_once-requires c = few c.args.file.now c.args.table.now c.opponents-given.result.now c.expect_form.ensures c.requires c.opponents-given.ensures
+first_not_once-requires c = few c.args.file.now c.args.table.now c.opponents-given.result.now c.expect_form.ensures.form c.requires c.opponents-given.ensures
 
 pub returns-in-Some-clause-only_legal : goal.returns-in-Some-clause-only_legal
 returns-in-Some-clause-only_legal c = (right_1 c.args.file.now c.args.table.now c.opponents-given.result.now c.in-Some.found _ c.opponents-given.ensures (sym c.first_not_once.ensures ∙ c.in-Some.is) refl).only_legal
@@ -40,5 +40,5 @@ returns-in-Some-first_pair-3-clause-broken c =
 
 pub returns-clause-legal : goal.returns-clause-legal
 returns-clause-legal c = λ _.
-    right_5 c.args.file.now c.args.table.now c.opponents-given.result.now c.opponents-given.ensures c.expect_form.ensures c.requires (sym c.first_not_once.ensures ∙ c.in_default.is)
+    right_5 c.args.file.now c.args.table.now c.opponents-given.result.now c.opponents-given.ensures c.expect_form.ensures.form c.requires (sym c.first_not_once.ensures ∙ c.in_default.is)
     (sym c.first_pair.ensures ∙ c.in_default-first_pair.is) (sym c.first_pair-2.ensures ∙ c.in_default-first_pair-2.is) (sym c.first_pair-3.ensures ∙ c.in_default-first_pair-3.is)
