@@ -2,8 +2,10 @@
 use Rattle.std.proofs.Common.{◌≡◌, ◌≢◌, ℕ, zero, suc, ◌+◌, ◌-◌, ◌≤◌, ◌<◌, Bool, true, false, not, cond, List, [], ◌∷◌, length, ◌⊎◌, inl, inr, refl, sym, ap, ◌∙◌, arith, Option, Some, None}
 use Rattle.std.specs.Prelude.{count_by, slice_set, ◌&&◌, ◌||◌, ◌==◌, nat_lt, replicate}
 use Rattle.std.specs.List.{AllByRecursion as Each}
-use Rattle.std.proofs.lemmas.Bool.Decides.{nat_tests}
+use Rattle.std.proofs.lemmas.Bool.Decides.{nat_tests, Decides-eqb}
+use Rattle.std.proofs.lemmas.List.{length-set}
 use Rattle.count_core.specs.declared.lit.Lit.{Lit}
+use Rattle.count_core.specs.Problems.{mentions}
 use Rattle.count_core.specs.Assignments.{value_of, signed, makes_true, SatisfiesRule}
 use Rattle.count_core.specs.Partials.{Partial, known, has_sign, is_true, is_false, is_unset, trues, falses, unsets, conflicts, forces, settle, settle_all, forced, Agrees}
 use Rattle.count_core.proofs.Lists.{each_map, count_le, count_apart, count_all, count_cover, count_cons}
@@ -126,6 +128,68 @@ known_none zero k c e = cc
 known_none (suc n) zero c e = cc
 known_none (suc n) (suc k) c e = known_none n k c e
 
+-- ---- literals settled
+
+pub length-settle : (b : Bool) (l : Lit) (p : Partial) → length (settle b l p) ≡ length p
+length-settle b l p = go (is_unset p l)
+  where
+    go : (u : Bool) → length (cond u (slice_set p l.atom.0 (Some (signed l.positive b))) p) ≡ length p
+    go true = length-set p l.atom.0 (Some (signed l.positive b))
+    go false = refl
+
+pub length-settle_all : (b : Bool) (ls : List Lit) (p : Partial) → length (settle_all b ls p) ≡ length p
+length-settle_all b [] p = refl
+length-settle_all b (l ∷ ls) p = length-settle_all b ls (settle b l p) ∙ length-settle b l p
+
+pub length-forced : (p : Partial) (ls : List Lit) (lo hi : ℕ) → length (forced p ls lo hi) ≡ length p
+unfolding forced
+length-forced p ls lo hi = go (trues p ls == hi) (length ls - falses p ls == lo)
+  where
+    go : (t u : Bool) → length (cond t (settle_all false ls p) (cond u (settle_all true ls p) p)) ≡ length p
+    go true u = length-settle_all false ls p
+    go false true = length-settle_all true ls p
+    go false false = refl
+
+-- an unset literal, and after it was set
+pub settle_unset : (b : Bool) (l : Lit) (p : Partial) → is_unset p l ≡ true → settle b l p ≡ slice_set p l.atom.0 (Some (signed l.positive b))
+settle_unset b l p e = rw e
+
+pub settle_set : (b : Bool) (l : Lit) (p : Partial) → is_unset p l ≡ false → settle b l p ≡ p
+settle_set b l p e = rw e
+
+-- other atoms keep their values
+pub settle_other : (b : Bool) (l : Lit) (p : Partial) (a : ℕ) → a ≢ l.atom.0 → known (settle b l p) a ≡ known p a
+settle_other b l p a ne = go (is_unset p l)
+  where
+    go : (u : Bool) → known (cond u (slice_set p l.atom.0 (Some (signed l.positive b))) p) a ≡ known p a
+    go true = known_other p l.atom.0 (Some (signed l.positive b)) a ne
+    go false = refl
+
+pub settle_all_other : (b : Bool) (ls : List Lit) (p : Partial) (a : ℕ) → mentions a ls ≡ false → known (settle_all b ls p) a ≡ known p a
+settle_all_other b [] p a e = refl
+settle_all_other b (l ∷ ls) p a e = go (l.atom.0 == a) refl e (settle_all_other b ls (settle b l p) a)
+  where
+    go : (t : Bool) → (l.atom.0 == a) ≡ t → (t || mentions a ls) ≡ false → (mentions a ls ≡ false → known (settle_all b ls (settle b l p)) a ≡ known (settle b l p) a) → known (settle_all b ls (settle b l p)) a ≡ known p a
+    go true is e rest = cc
+    go false is e rest = rest e ∙ settle_other b l p a (λ q. (let yes : (l.atom.0 == a) ≡ true = (Decides-eqb l.atom.0 a).1 (sym q) in cc))
+
+-- and what is set stays as it is
+pub settle_keeps : (b : Bool) (l : Lit) (p : Partial) (a : ℕ) (c : Bool) → known p a ≡ Some c → known (settle b l p) a ≡ Some c
+settle_keeps b l p a c e = go (is_unset p l) refl (l.atom.0 == a) refl
+  where
+    go : (u : Bool) → is_unset p l ≡ u → (t : Bool) → (l.atom.0 == a) ≡ t → known (cond u (slice_set p l.atom.0 (Some (signed l.positive b))) p) a ≡ Some c
+    go true un true is =
+        let same : l.atom.0 ≡ a = (Decides-eqb l.atom.0 a).0 is in
+        let unset = unset_none l.positive (known p l.atom.0) un in
+        let here : known p l.atom.0 ≡ Some c = rw same e in
+        cc
+    go true un false is = known_other p l.atom.0 (Some (signed l.positive b)) a (λ q. (let yes : (l.atom.0 == a) ≡ true = (Decides-eqb l.atom.0 a).1 (sym q) in cc)) ∙ e
+    go false un t is = e
+
+pub settle_all_keeps : (b : Bool) (ls : List Lit) (p : Partial) (a : ℕ) (c : Bool) → known p a ≡ Some c → known (settle_all b ls p) a ≡ Some c
+settle_all_keeps b [] p a c e = e
+settle_all_keeps b (l ∷ ls) p a c e = settle_all_keeps b ls (settle b l p) a c (settle_keeps b l p a c e)
+
 -- ---- an assignment that extends a partial one
 
 -- any assignment extends the one in which nothing is set
@@ -157,19 +221,31 @@ settle_all_agrees v b (l ∷ ls) p ag h =
 
 -- ---- a rule that the assignment satisfies
 
-module _ (v : List Bool) (p : Partial) (ag : Agrees v p) (ls : List Lit) (lo hi : ℕ) (met : SatisfiesRule v (record { lits = ls; lo = lo; hi = hi })) where
-  true_met : (l : Lit) → is_true p l ≡ true → makes_true v l ≡ true
+module _ (v : List Bool) (p : Partial) (ag : Agrees v p) where
+  -- what is set has its value in the assignment
+  pub true_met : (l : Lit) → is_true p l ≡ true → makes_true v l ≡ true
   true_met l e = sign_true l.positive (known p l.atom.0) (value_of v l.atom.0) (ag l.atom.0) e
 
-  false_unmet : (l : Lit) → is_false p l ≡ true → makes_true v l ≡ false
+  pub false_unmet : (l : Lit) → is_false p l ≡ true → makes_true v l ≡ false
   false_unmet l e = sign_false l.positive (known p l.atom.0) (value_of v l.atom.0) (ag l.atom.0) e
 
+  -- a rule that has no unset literal and does not conflict is satisfied
+  pub settled_satisfies : (ls : List Lit) (lo hi : ℕ) → unsets p ls ≡ 0 → conflicts p ls lo hi ≡ false → SatisfiesRule v (record { lits = ls; lo = lo; hi = hi })
+  unfolding conflicts
+  settled_satisfies ls lo hi none quiet =
+      let a = count_le (is_true p) (makes_true v) ls true_met in
+      let b = count_apart (is_false p) (makes_true v) ls false_unmet in
+      let add = numbers_add p ls in
+      let same : count_by (makes_true v) ls ≡ trues p ls = omega arith in
+      (grind (arith, nat_tests), grind (arith, nat_tests))
+
+module _ (v : List Bool) (p : Partial) (ag : Agrees v p) (ls : List Lit) (lo hi : ℕ) (met : SatisfiesRule v (record { lits = ls; lo = lo; hi = hi })) where
   -- it does not conflict
   pub no_conflict : conflicts p ls lo hi ≡ true → ⊥
   unfolding conflicts
   no_conflict e =
-      let a = count_le (is_true p) (makes_true v) ls true_met in
-      let b = count_apart (is_false p) (makes_true v) ls false_unmet in
+      let a = count_le (is_true p) (makes_true v) ls (true_met v p ag) in
+      let b = count_apart (is_false p) (makes_true v) ls (false_unmet v p ag) in
       grind (arith, nat_tests)
 
   full : (trues p ls == hi) ≡ true → count_by (makes_true v) ls ≤ count_by (is_true p) ls
@@ -196,10 +272,10 @@ module _ (v : List Bool) (p : Partial) (ag : Agrees v p) (ls : List Lit) (lo hi 
 
   -- at its upper bound its unset literals are false, at its lower bound true
   pub full_unmet : (trues p ls == hi) ≡ true → Each (λ l. is_unset p l ≡ true → makes_true v l ≡ false) ls
-  full_unmet e = each_map _ _ ls when_full (count_all (is_true p) (makes_true v) ls true_met (full e))
+  full_unmet e = each_map _ _ ls when_full (count_all (is_true p) (makes_true v) ls (true_met v p ag) (full e))
 
   pub scarce_met : (length ls - falses p ls == lo) ≡ true → Each (λ l. is_unset p l ≡ true → makes_true v l ≡ true) ls
-  scarce_met f = each_map _ _ ls when_scarce (count_cover (is_false p) (makes_true v) ls false_unmet (scarce f))
+  scarce_met f = each_map _ _ ls when_scarce (count_cover (is_false p) (makes_true v) ls (false_unmet v p ag) (scarce f))
 
   -- what it forces is so in the assignment
   pub forced_agrees : Agrees v (forced p ls lo hi)

@@ -4,3 +4,5 @@ pub mod Rules
 pub mod Forcing
 pub mod Soundness
 pub mod Renumbering
+pub mod Denials
+pub mod Walks

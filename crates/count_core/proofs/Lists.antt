@@ -8,6 +8,13 @@ pub both_true : (a b : Bool) → (a && b) ≡ true → (a ≡ true) × (b ≡ tr
 both_true true b e = (refl, e)
 both_true false b e = cc
 
+pub regroup : (m e a r : Bool) → (m || ((e || a) || r)) ≡ ((m || a) || (e || r))
+regroup true e a r = refl
+regroup false true true r = refl
+regroup false true false r = refl
+regroup false false true r = refl
+regroup false false false r = refl
+
 shuffle : (a b c d : Bool) → ((a || b) || (c || d)) ≡ ((a || c) || (b || d))
 shuffle true b c d = refl
 shuffle false true true d = refl

@@ -8,7 +8,7 @@ use Rattle.std.proofs.lemmas.List.Sums.{AllPass-from_list_all}
 use Rattle.std.proofs.lemmas.List.{get_or-set_same, get_or-set_other, length-set, drop_all}
 use Rattle.count_core.specs.declared.lit.Lit.{Lit}
 use Rattle.count_core.specs.Problems.{mentions, repeats, are_within}
-use Rattle.count_core.proofs.Lists.{both_true, any_same, any_or}
+use Rattle.count_core.proofs.Lists.{both_true, any_same, any_or, regroup}
 
 -- the atom has the mark
 abbrev pub is_marked : List ℕ → ℕ → ℕ → Bool
@@ -29,13 +29,6 @@ set_reads marks a mark k h = go (k == a) refl
     go false e =
         let other : k ≢ a = λ q. (let yes : (k == a) ≡ true = (Decides-eqb k a).1 q in cc) in
         rw (get_or-set_other marks a k mark 0 other)
-
-regroup : (m e a r : Bool) → (m || ((e || a) || r)) ≡ ((m || a) || (e || r))
-regroup true e a r = refl
-regroup false true true r = refl
-regroup false true false r = refl
-regroup false false true r = refl
-regroup false false false r = refl
 
 -- it is met exactly where some atom has it at first, or stands twice
 pub meets_mark_is : (marks : List ℕ) (mark : ℕ) (ls : List Lit) → are_within (length marks) ls ≡ true → meets_mark marks mark ls ≡ (list_any (λ l. is_marked marks mark l.atom.0) ls || repeats ls)

@@ -1,5 +1,5 @@
 -- Accepted lists taken apart, put together and renumbered.
-use Rattle.std.proofs.Common.{◌≡◌, ℕ, zero, suc, ◌+◌, Bool, true, false, cond, List, [], ◌∷◌, ◌++◌, take, drop, refl, sym, ap, ◌∙◌, Option, Some, None, slice_get, subst}
+use Rattle.std.proofs.Common.{◌≡◌, ℕ, zero, suc, ◌+◌, ◌-◌, Bool, true, false, cond, List, [], ◌∷◌, ◌++◌, length, take, drop, add-one, refl, sym, ap, ◌∙◌, Option, Some, None, arith, slice_get, subst}
 use Rattle.std.specs.Prelude.{option_map, map}
 use Rattle.std.specs.List.{AllByRecursion as Each}
 use Rattle.std.proofs.lemmas.List.{take-append-drop}
@@ -9,7 +9,7 @@ use Rattle.count_core.specs.declared.hint.Hint.TheVariants.{Rule, Step as Earlie
 use Rattle.count_core.specs.declared.step.Step.{Step}
 use Rattle.count_core.specs.Problems.{Problem}
 use Rattle.count_core.specs.Partials.{Partial, conflicts, forces, forced}
-use Rattle.count_core.specs.Steps.{clause_rule, rule_at, is_last, apply_hint, failing_from, denied, is_clause, IsAccepted, AreAcceptedAfter, AreAccepted}
+use Rattle.count_core.specs.Steps.{clause_rule, rule_at, is_last, apply_hint, failing_from, denied, is_clause, IsAccepted, AreAcceptedAfter, AreAccepted, HasLast}
 
 -- the hints name, one by one, rules that the others name too
 abbrev pub NameTheSame : (Hint → Option CountRule) → (Hint → Option CountRule) → List Hint → List Hint → Type 0
@@ -130,3 +130,22 @@ at_after problem earlier (t ∷ steps) (suc n) s h e =
 
 pub accepted_at : (problem : Problem) (steps : List Step) (n : ℕ) (s : Step) → AreAccepted problem steps → slice_get steps n ≡ Some s → IsAccepted problem (take n steps) s
 accepted_at problem steps n s h e = at_after problem [] steps n s h e
+
+-- ---- last steps
+
+past : (t : Step) (steps : List Step) (s : Step) → HasLast steps s → HasLast (t ∷ steps) s
+past t [] s e = cc
+past t (u ∷ steps) s e = let less : suc (suc (length steps)) - 1 ≡ suc (suc (length steps) - 1) = omega arith in rw less e
+
+last_at : (steps : List Step) (n : ℕ) (s : Step) → slice_get steps n ≡ Some s → HasLast (take (suc n) steps) s
+last_at [] n s e = cc
+last_at (t ∷ steps) zero s e = e
+last_at (t ∷ steps) (suc n) s e = past t (take (suc n) steps) s (last_at steps n s e)
+
+-- the step at a place is the last of those up to it
+pub last_of_take : (steps : List Step) (n : ℕ) (s : Step) → slice_get steps n ≡ Some s → HasLast (take (n + 1) steps) s
+last_of_take steps n s e = rw add-one (last_at steps n s e)
+
+pub last_pushed : (steps : List Step) (s : Step) → HasLast (steps ++ s ∷ []) s
+last_pushed [] s = refl
+last_pushed (t ∷ steps) s = past t (steps ++ s ∷ []) s (last_pushed steps s)

@@ -10,9 +10,9 @@ use Rattle.count_core.specs.declared.hint.Hint.{Hint}
 use Rattle.count_core.specs.declared.hint.Hint.TheVariants.{Rule, Step as Earlier}
 use Rattle.count_core.specs.declared.step.Step.{Step}
 use Rattle.count_core.specs.Problems.{Problem}
-use Rattle.count_core.specs.Assignments.{makes_true, signed, value_of, SatisfiesRule, Satisfies, SatisfiesQuestion, satisfies_clause, Follows}
+use Rattle.count_core.specs.Assignments.{makes_true, signed, value_of, SatisfiesRule, Satisfies, SatisfiesQuestion, satisfies_clause, negated, Follows}
 use Rattle.count_core.specs.Partials.{Partial, conflicts, forces, forced, Agrees}
-use Rattle.count_core.specs.Steps.{clause_rule, rule_at, is_last, apply_hint, failing_from, denied, is_clause, failing_hint, AreAcceptedAfter, AreAccepted, negated, NegatesOnly}
+use Rattle.count_core.specs.Steps.{clause_rule, rule_at, is_last, apply_hint, failing_from, denied, is_clause, failing_hint, AreAcceptedAfter, AreAccepted, NegatesOnly}
 use Rattle.count_core.specs.Laws.{AcceptedClausesFollow, RefutedQuestionsFail}
 use Rattle.count_core.proofs.Lists.{each_map, each_at, each_push, any_counts, none_pass}
 use Rattle.count_core.proofs.Forcing.{no_conflict, forced_agrees, nothing_agrees, settle_all_agrees}

@@ -18,6 +18,10 @@ signed false b = not b
 abbrev pub makes_true : List Bool → Lit → Bool
 makes_true values l = signed l.positive (value_of values l.atom.0)
 
+-- the literal that is true exactly where this one is false
+abbrev pub negated : Lit → Lit
+negated l = record { atom = l.atom; positive = not l.positive }
+
 -- how many of the literals are true
 abbrev pub true_number : List Bool → List Lit → ℕ
 true_number values lits = count_by (makes_true values) lits

@@ -7,6 +7,7 @@ use Rattle.count_core.specs.declared.hint.Hint.TheVariants.{Rule, Step as Earlie
 use Rattle.count_core.specs.declared.step.Step.{Step}
 use Rattle.count_core.specs.declared.count_rule.CountRule.{CountRule}
 use Rattle.count_core.specs.Problems.{Problem, repeats, are_within}
+use Rattle.count_core.specs.Assignments.{negated}
 use Rattle.count_core.specs.Partials.{Partial, conflicts, forces, forced, settle_all}
 
 -- a clause as a rule: at least one of its literals
@@ -58,6 +59,15 @@ failing_hint problem earlier s =
 abbrev pub IsAccepted : Problem → List Step → Step → Type 0
 IsAccepted problem earlier s = failing_hint problem earlier s ≡ None
 
+-- With p set, the hints lead to a conflict: each but the last names a rule that forces without a
+-- conflict, and the last names a rule that conflicts.
+abbrev pub LeadToConflict : (Hint → Option CountRule) → Partial → List Hint → Type 0
+LeadToConflict find p [] = ⊥
+LeadToConflict find p (h ∷ []) = (r : CountRule) × (find h ≡ Some r) × (conflicts p r.lits r.lo r.hi ≡ true)
+LeadToConflict find p (h ∷ g ∷ hs) =
+    (r : CountRule) × (find h ≡ Some r) × (conflicts p r.lits r.lo r.hi ≡ false) × (forces p r.lits r.lo r.hi ≡ true)
+    × LeadToConflict find (forced p r.lits r.lo r.hi) (g ∷ hs)
+
 -- Each step is accepted after the earlier ones and those before it.
 abbrev pub AreAcceptedAfter : Problem → List Step → List Step → Type 0
 AreAcceptedAfter problem earlier [] = Unit {0}
@@ -66,9 +76,6 @@ AreAcceptedAfter problem earlier (s ∷ steps) = IsAccepted problem earlier s ×
 -- An accepted list: each step is accepted after those before it.
 abbrev pub AreAccepted : Problem → List Step → Type 0
 AreAccepted problem steps = AreAcceptedAfter problem [] steps
-
-abbrev pub negated : Lit → Lit
-negated l = record { atom = l.atom; positive = not l.positive }
 
 -- each literal of the clause is the negation of one of the question's
 abbrev pub NegatesOnly : List Lit → List Lit → Type 0

@@ -1,5 +1,12 @@
-ghost use Rattle.count_core.specs.Laws.{AcceptedClausesFollow, RefutedQuestionsFail};
+ghost use Rattle.count_core.specs.Laws.{AcceptedByConflict, AcceptedClausesFollow, RefutedQuestionsFail};
 ghost use Rattle.count_core.specs.Clash.{ClashTable};
+
+/// A step is accepted exactly where its literals are over different atoms of the problem and, with
+/// each of them set false, each hint but the last names a rule that forces without a conflict, and
+/// the last names a rule that conflicts. Does nothing.
+pub fn law_accepted_by_conflict()
+    ensures { AcceptedByConflict }
+{}
 
 /// Every clause of an accepted list of steps follows from the problem: each assignment that
 /// satisfies the problem makes one of its literals true. Does nothing.

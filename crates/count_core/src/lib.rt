@@ -30,7 +30,10 @@ pub use count_rule::CountRule;
 pub use faults::CoreFault;
 pub use hint::Hint;
 pub use hints::Hints;
-pub use laws::{law_accepted_clauses_follow, law_clash_table, law_refuted_questions_fail};
+pub use laws::{
+    law_accepted_by_conflict, law_accepted_clauses_follow, law_clash_table,
+    law_refuted_questions_fail,
+};
 pub use lit::Lit;
 pub use lits::Lits;
 pub use problem::{Problem, SharedProblem};

@@ -1,4 +1,4 @@
-ghost use Rattle.std.specs.Prelude.{◌≡◌, not};
+ghost use Rattle.std.specs.Prelude.{◌≡◌};
 
 use crate::atom::Atom;
 
@@ -10,9 +10,11 @@ pub struct Lit {
 }
 
 impl Lit {
+    ghost use Rattle.count_core.specs.Assignments.{negated};
+
     /// The literal that is true exactly where this one is false. Takes no memory.
     pub fn negated(self) -> Lit
-        ensures { result ≡ record { atom = self.atom; positive = not self.positive } }
+        ensures { result ≡ negated self }
     {
         Lit {
             atom: self.atom,
