@@ -58,12 +58,12 @@ pub record ClashTable : Type 0 where
   pub first : failing_hint clash [] not_0 ≡ None
   pub second : failing_hint clash (not_0 ∷ []) not_2 ≡ None
   pub third : failing_hint clash (not_0 ∷ not_2 ∷ []) nothing ≡ None
-  -- rule 4 does not conflict at the end
-  pub last_forces : fails_at (no_of 0 ∷ []) (Rule 8 ∷ Rule 4 ∷ []) ≡ Some 1
+  -- rule 4 neither conflicts nor forces at the end
+  pub last_idle : fails_at (no_of 0 ∷ []) (Rule 8 ∷ Rule 4 ∷ []) ≡ Some 1
   -- rule 9 forces nothing
   pub idle : fails_at (no_of 0 ∷ []) (Rule 9 ∷ Rule 8 ∷ Rule 5 ∷ []) ≡ Some 0
-  -- the only hint forces
-  pub none_conflicts : fails_at (no_of 0 ∷ []) (Rule 8 ∷ []) ≡ Some 1
+  -- the only hint forces, and nothing conflicts
+  pub last_forces : fails_at (no_of 0 ∷ []) (Rule 8 ∷ []) ≡ Some 1
   -- an atom twice
   pub repeated : fails_at (no_of 0 ∷ no_of 0 ∷ []) (Rule 8 ∷ Rule 5 ∷ []) ≡ Some 0
   -- no hint
