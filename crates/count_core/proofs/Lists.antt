@@ -1,0 +1,116 @@
+-- Tests and facts over lists.
+use Rattle.std.proofs.Common.{◌≡◌, ℕ, zero, suc, ◌+◌, ◌≤◌, Bool, true, false, cond, List, [], ◌∷◌, ◌++◌, length, ◌⊎◌, inl, inr, refl, arith, Some, slice_get, subst}
+use Rattle.std.specs.Prelude.{count_by, ◌||◌, ◌&&◌}
+use Rattle.std.specs.List.{AllByRecursion as Each, list_any}
+use Rattle.std.proofs.lemmas.List.Sums.{sum_by-cons}
+
+pub both_true : (a b : Bool) → (a && b) ≡ true → (a ≡ true) × (b ≡ true)
+both_true true b e = (refl, e)
+both_true false b e = cc
+
+pub regroup : (m e a r : Bool) → (m || ((e || a) || r)) ≡ ((m || a) || (e || r))
+regroup true e a r = refl
+regroup false true true r = refl
+regroup false true false r = refl
+regroup false false true r = refl
+regroup false false false r = refl
+
+shuffle : (a b c d : Bool) → ((a || b) || (c || d)) ≡ ((a || c) || (b || d))
+shuffle true b c d = refl
+shuffle false true true d = refl
+shuffle false true false d = refl
+shuffle false false true d = refl
+shuffle false false false d = refl
+
+module _ {X : Type 0} where
+  pub each_map : (P Q : X → Type 0) (xs : List X) → ((x : X) → P x → Q x) → Each P xs → Each Q xs
+  each_map P Q [] f h = tt
+  each_map P Q (x ∷ xs) f h = (f x h.0, each_map P Q xs f h.1)
+
+  pub each_at : (P : X → Type 0) (xs : List X) (n : ℕ) (y : X) → Each P xs → slice_get xs n ≡ Some y → P y
+  each_at P [] n y h e = cc
+  each_at P (x ∷ xs) zero y h e = let same : x ≡ y = cc in subst P same h.0
+  each_at P (x ∷ xs) (suc n) y h e = each_at P xs n y h.1 e
+
+  pub each_push : (P : X → Type 0) (xs : List X) (y : X) → Each P xs → P y → Each P (xs ++ y ∷ [])
+  each_push P [] y h e = (e, tt)
+  each_push P (x ∷ xs) y h e = (h.0, each_push P xs y h.1 e)
+
+  pub any_same : (p q : X → Bool) → ((x : X) → p x ≡ q x) → (xs : List X) → list_any p xs ≡ list_any q xs
+  any_same p q e [] = refl
+  any_same p q e (x ∷ xs) = rw (e x, any_same p q e xs)
+
+  pub any_or : (p q : X → Bool) (xs : List X) → list_any (λ x. p x || q x) xs ≡ (list_any p xs || list_any q xs)
+  any_or p q [] = refl
+  any_or p q (x ∷ xs) = rw (any_or p q xs) (shuffle (p x) (q x) (list_any p xs) (list_any q xs))
+
+-- ---- counts
+
+bits : (a b : Bool) → (a ≡ true → b ≡ true) → cond a 1 0 ≤ cond b 1 0
+bits true b h = rw (h refl) (omega arith)
+bits false b h = omega arith
+
+bits_apart : (a b : Bool) → (a ≡ true → b ≡ false) → cond a 1 0 + cond b 1 0 ≤ 1
+bits_apart true b h = rw (h refl) (omega arith)
+bits_apart false true h = omega arith
+bits_apart false false h = omega arith
+
+bits_back : (a b : Bool) → cond b 1 0 ≤ cond a 1 0 → b ≡ true → a ≡ true
+bits_back true b le e = refl
+bits_back false true le e = absurd (omega arith)
+bits_back false false le e = e
+
+bits_cover : (a b : Bool) → 1 ≤ cond a 1 0 + cond b 1 0 → (a ≡ true) ⊎ (b ≡ true)
+bits_cover true b le = inl refl
+bits_cover false true le = inr refl
+bits_cover false false le = absurd (omega arith)
+
+pub count_cons : {X : Type 0} (p : X → Bool) (x : X) (xs : List X) → count_by p (x ∷ xs) ≡ cond (p x) 1 0 + count_by p xs
+count_cons p x xs = sum_by-cons (λ x. cond (p x) 1 0) x xs
+
+module _ {X : Type 0} (p q : X → Bool) where
+  -- what passes p passes q
+  pub count_le : (xs : List X) → ((x : X) → p x ≡ true → q x ≡ true) → count_by p xs ≤ count_by q xs
+  count_le [] h = omega arith
+  count_le (x ∷ xs) h = omega (arith, count_le xs h, bits (p x) (q x) (h x), count_cons p x xs, count_cons q x xs)
+
+  -- nothing passes both
+  pub count_apart : (xs : List X) → ((x : X) → p x ≡ true → q x ≡ false) → count_by p xs + count_by q xs ≤ length xs
+  count_apart [] h = omega arith
+  count_apart (x ∷ xs) h = omega (arith, count_apart xs h, bits_apart (p x) (q x) (h x), count_cons p x xs, count_cons q x xs)
+
+  -- where as many pass q as p, what passes q passes p
+  pub count_all : (xs : List X) → ((x : X) → p x ≡ true → q x ≡ true) → count_by q xs ≤ count_by p xs → Each (λ x. q x ≡ true → p x ≡ true) xs
+  count_all [] h le = tt
+  count_all (x ∷ xs) h le =
+      let a = count_le xs h in
+      let b = bits (p x) (q x) (h x) in
+      let cp = count_cons p x xs in
+      let cq = count_cons q x xs in
+      (bits_back (p x) (q x) (omega arith), count_all xs h (omega arith))
+
+  -- where all are counted, each passes one
+  pub count_cover : (xs : List X) → ((x : X) → p x ≡ true → q x ≡ false) → length xs ≤ count_by p xs + count_by q xs → Each (λ x. (p x ≡ true) ⊎ (q x ≡ true)) xs
+  count_cover [] h le = tt
+  count_cover (x ∷ xs) h le =
+      let a = count_apart xs h in
+      let b = bits_apart (p x) (q x) (h x) in
+      let cp = count_cons p x xs in
+      let cq = count_cons q x xs in
+      (bits_cover (p x) (q x) (omega arith), count_cover xs h (omega arith))
+
+pub any_counts : {X : Type 0} (p : X → Bool) (xs : List X) → list_any p xs ≡ true → 1 ≤ count_by p xs
+any_counts p [] e = cc
+any_counts p (x ∷ xs) e = rw count_cons (go (p x) (any_counts p xs) e)
+  where
+    go : (b : Bool) → (list_any p xs ≡ true → 1 ≤ count_by p xs) → (b || list_any p xs) ≡ true → 1 ≤ cond b 1 0 + count_by p xs
+    go true rest e = omega arith
+    go false rest e = omega (arith, rest e)
+
+pub none_pass : {X : Type 0} (p : X → Bool) (xs : List X) → list_any p xs ≡ false → Each (λ x. p x ≡ false) xs
+none_pass p [] e = tt
+none_pass p (x ∷ xs) e = go (p x) refl e (none_pass p xs)
+  where
+    go : (b : Bool) → p x ≡ b → (b || list_any p xs) ≡ false → (list_any p xs ≡ false → Each (λ x. p x ≡ false) xs) → (p x ≡ false) × Each (λ x. p x ≡ false) xs
+    go true is e rest = cc
+    go false is e rest = (is, rest e)

@@ -1,0 +1,27 @@
+ghost use Rattle.count_core.specs.Laws.{AcceptedByConflict, AcceptedClausesFollow, RefutedQuestionsFail};
+ghost use Rattle.count_core.specs.Clash.{ClashTable};
+
+/// A step is accepted exactly where its literals are over different atoms of the problem and, with
+/// each of them set false, each hint but the last names a rule that forces without a conflict, and
+/// the last names a rule that conflicts. Does nothing.
+pub fn law_accepted_by_conflict()
+    ensures { AcceptedByConflict }
+{}
+
+/// Every clause of an accepted list of steps follows from the problem: each assignment that
+/// satisfies the problem makes one of its literals true. Does nothing.
+pub fn law_accepted_clauses_follow()
+    ensures { AcceptedClausesFollow }
+{}
+
+/// A question that has a refutation is satisfied by no assignment that satisfies the problem. Does
+/// nothing.
+pub fn law_refuted_questions_fail()
+    ensures { RefutedQuestionsFail }
+{}
+
+/// The definitions on a small problem: which steps are accepted, and which hint fails. Does
+/// nothing.
+pub fn law_clash_table()
+    ensures { ClashTable }
+{}

@@ -1,0 +1,42 @@
+ghost use Rattle.std.specs.Prelude.{◌≡◌, Decides};
+
+use crate::count_rule::CountRule;
+use crate::lit::Lit;
+
+/// Whether the literals are the same, in the same order.
+pub(crate) fn same_lits(one: &[Lit], other: &[Lit]) -> bool
+    ensures { Decides result (one.now ≡ other.now) }
+{
+    if one.len() != other.len() {
+        return false;
+    }
+    for k in 0..one.len() {
+        if one[k] != other[k] {
+            return false;
+        }
+    }
+    true
+}
+
+/// Whether the rules are the same, in the same order.
+pub(crate) fn same_rules(one: &[CountRule], other: &[CountRule]) -> bool
+    ensures { Decides result (one.now ≡ other.now) }
+{
+    if one.len() != other.len() {
+        return false;
+    }
+    for k in 0..one.len() {
+        if !same_rule(&one[k], &other[k]) {
+            return false;
+        }
+    }
+    true
+}
+
+fn same_rule(one: &CountRule, other: &CountRule) -> bool
+    ensures { Decides result (one.now ≡ other.now) }
+{
+    one.lo == other.lo
+        && one.hi == other.hi
+        && same_lits(one.lits.as_slice(), other.lits.as_slice())
+}
