@@ -166,7 +166,7 @@ silent earlier (t ∷ ts) whole is none e =
     go None f h rest = rest (subst (λ w. NoneBelow (codes_of w) (length (earlier ++ t ∷ []))) is (step earlier t ts f (rw (← is) at none))) h
     go (Some id) f h rest = cc
 
-first_told : (teams : List Team) (fault : FileFault) → same_code_fault teams ≡ Some fault → FirstRepeatTold teams fault
+pub first_told : (teams : List Team) (fault : FileFault) → same_code_fault teams ≡ Some fault → FirstRepeatTold teams fault
 first_told teams fault e = told [] teams teams fault refl (λ k other lt at before. omega (arith, lt)) e
 
 none_told : (teams : List Team) → same_code_fault teams ≡ None → NoneBelow (codes_of teams) (length teams)
@@ -181,7 +181,7 @@ one_first codes i j a b p q = go (cases_order i j)
     go (inr (inl less)) = absurd (q.first i a less p.has p.before)
     go (inr (inr more)) = absurd (p.first j b more q.has q.before)
 
-told_back : (teams : List Team) (fault : FileFault) → FirstRepeatTold teams fault → same_code_fault teams ≡ Some fault
+pub told_back : (teams : List Team) (fault : FileFault) → FirstRepeatTold teams fault → same_code_fault teams ≡ Some fault
 told_back teams fault h = go (same_code_fault teams) refl
   where
     go : (r : Option FileFault) → same_code_fault teams ≡ r → same_code_fault teams ≡ Some fault
