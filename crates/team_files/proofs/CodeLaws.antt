@@ -142,12 +142,16 @@ told earlier (t ∷ ts) whole fault is none e =
         → FirstRepeatTold whole fault
     go None f h rest = rest (subst (λ w. NoneBelow (codes_of w) (length (earlier ++ t ∷ []))) is (step earlier t ts f (rw (← is) at none))) h
     go (Some id) f h rest =
-        let old = in_front earlier (t ∷ ts) id.0 t.code (stands t.code earlier id f) in
-        (length earlier, t.code, cc, record {
-          has = rw (← is) (at_front earlier t ts);
-          before = (id.0, old.0, rw (← is) old.1);
-          first = none;
-        })
+        let old = in_front earlier (t ∷ ts) id.0 t.code (stands t.code earlier id f) in (
+          length earlier,
+          t.code,
+          cc,
+          record {
+            has = rw (← is) (at_front earlier t ts);
+            before = (id.0, old.0, rw (← is) old.1);
+            first = none;
+          },
+        )
 
 silent : (earlier ts whole : List Team) → earlier ++ ts ≡ whole → NoneBelow (codes_of whole) (length earlier)
     → same_code_from earlier ts ≡ None → NoneBelow (codes_of whole) (length whole)

@@ -27,9 +27,9 @@ TeamTold (Err g) wrong code pot = wrong ≡ Some g
 
 team_parts : (code : Option (List ℕ)) (name : Option (Option (List ℕ))) (pot : Option ℕ) (tags : Option (List (List ℕ))) (letter : Option ℕ)
     → TeamTold (after (or_wrong code Field.Code) (λ c. after (or_wrong name Field.Name) (λ n. after (or_wrong pot Field.Pot) (λ p. after (or_wrong tags Field.Tags) (λ t. after (or_wrong letter Field.Group) (λ l.
-      Ok (record { code = c; name = n; pot = p; tags = t; group_letter = l })))))))
-      (option_or (wrong_if (is_none code) Field.Code) (option_or (wrong_if (is_none name) Field.Name) (option_or (wrong_if (is_none pot) Field.Pot) (option_or (wrong_if (is_none tags) Field.Tags) (wrong_if (is_none letter) Field.Group)))))
-      code pot
+    Ok (record { code = c; name = n; pot = p; tags = t; group_letter = l })))))))
+    (option_or (wrong_if (is_none code) Field.Code) (option_or (wrong_if (is_none name) Field.Name) (option_or (wrong_if (is_none pot) Field.Pot) (option_or (wrong_if (is_none tags) Field.Tags) (wrong_if (is_none letter) Field.Group)))))
+    code pot
 team_parts None name pot tags letter = refl
 team_parts (Some c) None pot tags letter = refl
 team_parts (Some c) (Some n) None tags letter = refl
@@ -117,8 +117,8 @@ fields_told d = go (objects_in (codes "teams") d) refl
 
     go : (o : Option (List Data)) → objects_in (codes "teams") d ≡ o
         → FieldsTold
-          (after (or_wrong o Field.Teams) (λ objects. after (all_team_fields objects) (λ teams. after (or_wrong (pairs_in d) Field.Pairs) (λ pairs. Ok (record { teams = teams; pairs = pairs })))))
-          (option_or (wrong_if (is_none o) Field.Teams) (option_or (wrong_in_teams (team_values d)) (wrong_if (is_none (pairs_in d)) Field.Pairs))) d
+        (after (or_wrong o Field.Teams) (λ objects. after (all_team_fields objects) (λ teams. after (or_wrong (pairs_in d) Field.Pairs) (λ pairs. Ok (record { teams = teams; pairs = pairs })))))
+        (option_or (wrong_if (is_none o) Field.Teams) (option_or (wrong_in_teams (team_values d)) (wrong_if (is_none (pairs_in d)) Field.Pairs))) d
     go None e = refl
     go (Some os) e = inner os (all_team_fields os) (pairs_in d) (objects_are (list_in (codes "teams") d) os e) (teams_told os) refl
 
@@ -135,8 +135,8 @@ CodesTold (Err g) bad fs = bad ≡ Some g
 
 one_code : (b : Bool) (i : ℕ) (f : TeamFields) (s : Result (List Team) FileFault) (bad : Option FileFault) (fs : List TeamFields) → CodesTold s bad fs
     → CodesTold
-      (after (if b then Ok (record { code = f.code; name = name_of f.code f.name; pot = f.pot; tags = f.tags; group_letter = Some f.group_letter }) else Err (FileFault.BadCode i)) (λ team. after s (λ teams. Ok (team ∷ teams))))
-      (if b then bad else Some (FileFault.BadCode i)) (f ∷ fs)
+    (after (if b then Ok (record { code = f.code; name = name_of f.code f.name; pot = f.pot; tags = f.tags; group_letter = Some f.group_letter }) else Err (FileFault.BadCode i)) (λ team. after s (λ teams. Ok (team ∷ teams))))
+    (if b then bad else Some (FileFault.BadCode i)) (f ∷ fs)
 one_code false i f s bad fs h = refl
 one_code true i f (Err g) bad fs h = h
 one_code true i f (Ok ts) bad fs h = (h.0, ap (λ l. f.code ∷ l) h.1, ap (λ l. f.pot ∷ l) h.2)

@@ -91,7 +91,7 @@ with_codes d fields (Ok ts) e p h = rw h.0 (last d fields ts (h.1 ∙ e) (h.2 �
 
 with_fields : (d : Data) (r : Result HeadFields FileFault) → FieldsTold r (wrong_fault d) d
     → result_err (after r (λ fields. unless (too_many_fault fields) (after (teams_from 0 fields.teams) (λ teams. unless (same_code_fault teams) (unless (pot_size_fault teams) (Ok (pairing_head teams fields.pairs)))))))
-      ≡ first_of (wrong_fault d ∷ many_in d ∷ bad_in d ∷ same_in d ∷ sizes_in d ∷ [])
+    ≡ first_of (wrong_fault d ∷ many_in d ∷ bad_in d ∷ same_in d ∷ sizes_in d ∷ [])
 with_fields d (Err g) h = rw h refl
 with_fields d (Ok fields) h =
     let many : too_many_fault fields ≡ many_in d = rw (← h.1) (rw (← h.4) refl) in
@@ -138,7 +138,7 @@ absent_in_team d = go (not (is_object d))
     inner = missing_in_team d
 
     go : (b : Bool) → Only NamesAbsent (if b then None else
-      option_or (missing_if (lacks (codes "code") d) Field.Code) (option_or (missing_if (lacks (codes "pot") d) Field.Pot) (option_or (missing_if (lacks (codes "tags") d) Field.Tags) (missing_if (lacks (codes "group") d) Field.Group))))
+        option_or (missing_if (lacks (codes "code") d) Field.Code) (option_or (missing_if (lacks (codes "pot") d) Field.Pot) (option_or (missing_if (lacks (codes "tags") d) Field.Tags) (missing_if (lacks (codes "group") d) Field.Group))))
     go true = tt
     go false =
         either NamesAbsent _ _ (absent (lacks (codes "code") d) Field.Code tt)
