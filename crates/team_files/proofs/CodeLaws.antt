@@ -142,12 +142,16 @@ told earlier (t ∷ ts) whole fault is none e =
         → FirstRepeatTold whole fault
     go None f h rest = rest (subst (λ w. NoneBelow (codes_of w) (length (earlier ++ t ∷ []))) is (step earlier t ts f (rw (← is) at none))) h
     go (Some id) f h rest =
-        let old = in_front earlier (t ∷ ts) id.0 t.code (stands t.code earlier id f) in
-        (length earlier, t.code, cc, record {
-          has = rw (← is) (at_front earlier t ts);
-          before = (id.0, old.0, rw (← is) old.1);
-          first = none;
-        })
+        let old = in_front earlier (t ∷ ts) id.0 t.code (stands t.code earlier id f) in (
+          length earlier,
+          t.code,
+          cc,
+          record {
+            has = rw (← is) (at_front earlier t ts);
+            before = (id.0, old.0, rw (← is) old.1);
+            first = none;
+          },
+        )
 
 silent : (earlier ts whole : List Team) → earlier ++ ts ≡ whole → NoneBelow (codes_of whole) (length earlier)
     → same_code_from earlier ts ≡ None → NoneBelow (codes_of whole) (length whole)
@@ -166,7 +170,7 @@ silent earlier (t ∷ ts) whole is none e =
     go None f h rest = rest (subst (λ w. NoneBelow (codes_of w) (length (earlier ++ t ∷ []))) is (step earlier t ts f (rw (← is) at none))) h
     go (Some id) f h rest = cc
 
-first_told : (teams : List Team) (fault : FileFault) → same_code_fault teams ≡ Some fault → FirstRepeatTold teams fault
+pub first_told : (teams : List Team) (fault : FileFault) → same_code_fault teams ≡ Some fault → FirstRepeatTold teams fault
 first_told teams fault e = told [] teams teams fault refl (λ k other lt at before. omega (arith, lt)) e
 
 none_told : (teams : List Team) → same_code_fault teams ≡ None → NoneBelow (codes_of teams) (length teams)
@@ -181,7 +185,7 @@ one_first codes i j a b p q = go (cases_order i j)
     go (inr (inl less)) = absurd (q.first i a less p.has p.before)
     go (inr (inr more)) = absurd (p.first j b more q.has q.before)
 
-told_back : (teams : List Team) (fault : FileFault) → FirstRepeatTold teams fault → same_code_fault teams ≡ Some fault
+pub told_back : (teams : List Team) (fault : FileFault) → FirstRepeatTold teams fault → same_code_fault teams ≡ Some fault
 told_back teams fault h = go (same_code_fault teams) refl
   where
     go : (r : Option FileFault) → same_code_fault teams ≡ r → same_code_fault teams ≡ Some fault

@@ -4,3 +4,4 @@ pub mod Answers
 pub mod Members
 pub mod Heads
 pub mod Codes
+pub mod Faults

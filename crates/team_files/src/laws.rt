@@ -2,6 +2,7 @@
 //! anything.
 
 ghost use Rattle.team_files.specs.Codes.{FindsByCode, TellsSameCode};
+ghost use Rattle.team_files.specs.Faults.{TellsFirstFault};
 
 /// Where codes are different, a code finds exactly the team that has it, and none exactly where no
 /// team has it. Does nothing.
@@ -13,4 +14,10 @@ pub fn law_find_by_code()
 /// where some code stands twice. Does nothing.
 pub fn law_same_code()
     ensures { TellsSameCode }
+{}
+
+/// The fault that `read_head` tells of a value is the first that holds of it, in the order of their
+/// numbers, and it gives a head exactly where none holds. Does nothing.
+pub fn law_first_fault()
+    ensures { TellsFirstFault }
 {}

@@ -32,7 +32,7 @@ pub use head_limit::{HeadLimit, HeadLimits};
 pub use head_pair::{HeadPair, HeadPairs};
 pub use head_place::{HeadPlace, HeadPlaces};
 pub use kind::Kind;
-pub use laws::{law_find_by_code, law_same_code};
+pub use laws::{law_find_by_code, law_first_fault, law_same_code};
 pub use reading::read_head;
 pub use std::alloc::AllocError as NoMemory;
 pub use tag::{Tag, Tags};

@@ -10,24 +10,39 @@ const SECOND: &str = r#"{"code":"BBB","pot":2,"tags":["Y"],"group":"B"}"#;
 /// Heads, each behind its first fault.
 const HEADS: &str = r#"
 NotJson: {"kind":"pairing"
+NotJson: {"kind":"pairing"}{}
+NotJson: {"kind":"pairing","other":1e400}
 NotObject: []
+NotObject: null
+NotObject: "kind"
 KindUnknown cup: {"kind":"cup"}
+KindUnknown cup: {"kind":"cup","teams":7}
+KindUnknown Pairing: {"kind":"Pairing"}
 KindUnknown cup: {"kind":"pairing","kind":"cup"}
 FieldMissing Kind: {}
+FieldMissing Kind: {"teams":7}
 FieldWrong Kind: {"kind":7}
+FieldWrong Kind: {"kind":null,"teams":7}
 KindNotBuilt: {"kind":"group"}
 KindNotBuilt: {"kind":"league"}
 FieldMissing Teams: {"kind":"pairing"}
 FieldMissing Teams: {"kind":"cup","kind":"pairing"}
+FieldMissing Teams: {"kind":"pairing","pairs":7}
+FieldMissing Teams: {"\u006bind":"\u0070airing"}
 FieldWrong Teams: {"kind":"pairing","teams":7}
 FieldWrong Teams: {"kind":"pairing","teams":null}
 FieldWrong Teams: {"kind":"pairing","teams":[7]}
+FieldWrong Teams: {"kind":"pairing","pairs":7,"teams":{}}
+FieldWrong Pairs: {"kind":"pairing","pairs":7,"teams":[]}
 PotSize 1 0: {"kind":"pairing","teams":[]}
+PotSize 1 0: {"kind":"pairing","groups":-1,"pots":"2","teams":[],"limits":7,"places":[7]}
 "#;
 
 /// Second teams of a head of two, each behind the head's first fault.
 const TEAMS: &str = r#"
 FieldWrong Teams: 7
+FieldWrong Teams: null
+FieldMissing Code: {}
 FieldMissing Code: {"pot":9}
 FieldMissing Pot: {"code":7,"tags":[],"group":"B"}
 FieldMissing Tags: {"code":"BBB","pot":9,"group":"B"}
@@ -39,6 +54,16 @@ FieldWrong Pot: {"code":"BBB","pot":0,"tags":["Y"],"group":"B"}
 FieldWrong Pot: {"code":"BBB","pot":"1","tags":["Y"],"group":"B"}
 FieldWrong Pot: {"code":"BBB","pot":2.0,"tags":["Y"],"group":"B"}
 FieldWrong Pot: {"code":"BBB","pot":-1,"tags":["Y"],"group":"B"}
+FieldWrong Pot: {"code":"BBB","pot":-0,"tags":["Y"],"group":"B"}
+FieldWrong Pot: {"code":"BBB","pot":1e3,"tags":["Y"],"group":"B"}
+FieldWrong Pot: {"code":"BBB","pot":18446744073709551615,"tags":["Y"],"group":"B"}
+FieldWrong Pot: {"code":"BBB","pot":18446744073709551616,"tags":["Y"],"group":"B"}
+FieldWrong Pot: {"code":"BBB","pot":2,"pot":9,"tags":["Y"],"group":"B"}
+none: {"code":"BBB","pot":9,"pot":2,"tags":["Y"],"group":"B"}
+none: {"code":"AAA","code":"BBB","pot":2,"tags":["Y"],"group":"B"}
+none: {"code":"BBB","name":"","pot":2,"tags":["Y"],"group":"B"}
+FieldWrong Name: {"code":"BBB","name":null,"pot":2,"tags":["Y"],"group":"B"}
+FieldWrong Code: {"code":null,"pot":2,"tags":["Y"],"group":"B"}
 FieldWrong Tags: {"code":"BBB","pot":2,"tags":[],"group":7}
 FieldWrong Tags: {"code":"BBB","pot":2,"tags":["X","Y","Z"],"group":"B"}
 FieldWrong Tags: {"code":"BBB","pot":2,"tags":["Y","Y"],"group":"B"}
@@ -49,8 +74,78 @@ FieldWrong Group: {"code":"BBB","pot":2,"tags":["Y"],"group":"AB"}
 FieldWrong Group: {"code":"BBB","pot":2,"tags":["Y"],"group":"a"}
 FieldWrong Group: {"code":"BBB","pot":2,"tags":["Y"],"group":null}
 BadCode 1: {"code":"bbb","pot":2,"tags":["Y"],"group":"B"}
+none: {"code":"\u0042BB","pot":2,"tags":["\u0059"],"group":"\u0042"}
+SameCode AAA: {"code":"\u0041AA","pot":1,"tags":["Y"],"group":"B"}
 SameCode AAA: {"code":"AAA","pot":1,"tags":["Y"],"group":"B"}
 PotSize 2 0: {"code":"BBB","pot":1,"tags":["Y"],"group":"B"}
+"#;
+
+/// Codes of a second team, each behind the head's first fault.
+const CODES: &str = r#"
+none: AZ0
+none: 09Z
+BadCode 1: @BB
+BadCode 1: B[B
+BadCode 1: BB/
+BadCode 1: :BB
+BadCode 1: B`B
+BadCode 1: BBa
+BadCode 1: BB
+BadCode 1: BBBB
+BadCode 1: 
+BadCode 1: BÄ
+"#;
+
+/// Tags of a second team, as the list has them, each behind the head's first fault.
+const TAGS: &str = r#"
+none: "0"
+none: "AZ","09"
+none: "ABCDEFGHIJKLMNOP"
+FieldWrong Tags: 
+FieldWrong Tags: ""
+FieldWrong Tags: "@"
+FieldWrong Tags: "A["
+FieldWrong Tags: "/"
+FieldWrong Tags: "0:"
+FieldWrong Tags: "`"
+FieldWrong Tags: "a"
+FieldWrong Tags: "Y",7
+FieldWrong Tags: null
+FieldWrong Tags: "Y","Z","Y"
+FieldWrong Tags: "ABCDEFGHIJKLMNOPQ"
+"#;
+
+/// Group letters of a second team, each behind the head's first fault.
+const LETTERS: &str = r#"
+none: A
+none: Z
+FieldWrong Group: @
+FieldWrong Group: [
+FieldWrong Group: 1
+FieldWrong Group: 
+FieldWrong Group: Ä
+"#;
+
+/// Lists of teams by code and pot, each behind the head's first fault. Where two faults hold, the
+/// list stands in both orders.
+const LISTS: &str = r#"
+none: AAA/1 BBB/2
+none: BBB/2 AAA/1
+none: AAA/1 BBB/2 CCC/1 DDD/2
+none: DDD/2 CCC/1 BBB/2 AAA/1
+BadCode 2: AAA/1 AAA/1 bbb/2
+BadCode 0: bbb/2 AAA/1 AAA/1
+BadCode 0: bbb/2 bbb/2
+SameCode AAA: AAA/1 AAA/1
+SameCode BBB: AAA/1 BBB/1 BBB/1 AAA/1
+SameCode AAA: AAA/1 BBB/1 AAA/1 BBB/1
+PotSize 1 0: AAA/2 BBB/2
+PotSize 2 0: AAA/1 BBB/1
+PotSize 2 1: AAA/1 CCC/1 BBB/2
+PotSize 2 2: BBB/2 AAA/1 DDD/2
+FieldWrong Pot: AAA/3 bbb/1
+FieldWrong Pot: bbb/1 AAA/3
+FieldWrong Pot: AAA/0 AAA/1
 "#;
 
 /// Forbidden pairs of a head of two teams, each behind the head's first fault.
@@ -111,6 +206,79 @@ fn heads_are_refused(rt: HostRuntime) -> Result<(), Fail> {
     expect_table(&rt, alloc, PAIRS, (start.as_str(), "}"))
 }
 
+#[test]
+fn codes_tags_and_letters_have_alphabets(rt: HostRuntime) -> Result<(), Fail> {
+    let alloc = rt.alloc();
+    let start = format!(in alloc; r#"{{"kind":"pairing","teams":[{FIRST},{{"pot":2,"#)?;
+    let code = format!(in alloc;
+        "{}\"tags\":[\"Y\"],\"group\":\"B\",\"code\":\"",
+        start.as_str()
+    )?;
+    expect_table(&rt, alloc, CODES, (code.as_str(), "\"}]}"))?;
+    let tags = format!(in alloc;
+        "{}\"code\":\"BBB\",\"group\":\"B\",\"tags\":[",
+        start.as_str()
+    )?;
+    expect_table(&rt, alloc, TAGS, (tags.as_str(), "]}]}"))?;
+    let letter = format!(in alloc;
+        "{}\"code\":\"BBB\",\"tags\":[\"Y\"],\"group\":\"",
+        start.as_str()
+    )?;
+    expect_table(&rt, alloc, LETTERS, (letter.as_str(), "\"}]}"))
+}
+
+/// A head of teams that are given by code and pot.
+fn head_of_teams(alloc: Global, list: &str) -> Result<String, AllocError> {
+    let mut head = String::from_str(alloc, r#"{"kind":"pairing","teams":["#)?;
+    for (place, team) in list.split(' ').enumerate() {
+        if place > 0 {
+            head.push_str(",")?;
+        }
+        let (code, pot) = team.split_once('/').unwrap_or((team, ""));
+        let team = format!(in alloc;
+            r#"{{"code":"{code}","pot":{pot},"tags":["X"],"group":"A"}}"#
+        )?;
+        head.push_str(team.as_str())?;
+    }
+    head.push_str("]}")?;
+    Ok(head)
+}
+
+#[test]
+fn the_first_fault_of_teams_is_told(rt: HostRuntime) -> Result<(), Fail> {
+    let alloc = rt.alloc();
+    for line in LISTS.lines() {
+        if let Some((fault, list)) = line.split_once(": ") {
+            let head = head_of_teams(alloc, list)?;
+            let said = told(alloc, head.as_str())?;
+            assert!(rt; said.as_str() == fault, "{list}: {said}");
+        }
+    }
+    Ok(())
+}
+
+#[test]
+fn bytes_that_are_no_text_are_refused(rt: HostRuntime) -> Result<(), Fail> {
+    let alloc = rt.alloc();
+    let marked = format!(in alloc; "\u{feff}{RICH}")?;
+    assert!(rt; told(alloc, marked.as_str())?.as_str() == "NotJson");
+    let bytes = [b'{', b'"', 0xff, b'"', b':', b'7', b'}'];
+    assert!(rt; matches!(read_head(alloc, &bytes), Err(FileFault::NotJson)));
+    // The object is one level more.
+    for (depth, fault) in [(126, "FieldMissing Teams"), (127, "NotJson")] {
+        let mut head = String::from_str(alloc, r#"{"kind":"pairing","deep":"#)?;
+        for _ in 0..depth {
+            head.push_str("[")?;
+        }
+        for _ in 0..depth {
+            head.push_str("]")?;
+        }
+        head.push_str("}")?;
+        assert!(rt; told(alloc, head.as_str())?.as_str() == fault);
+    }
+    Ok(())
+}
+
 /// The part so many times, with commas between, in brackets.
 fn repeated(alloc: Global, part: &str, number: usize) -> Result<String, AllocError> {
     let mut list = format!(in alloc; "[{part}")?;
@@ -137,6 +305,30 @@ fn lists_have_limits(rt: HostRuntime) -> Result<(), Fail> {
         )?;
         assert!(rt; told(alloc, head.as_str())?.as_str() == fault);
     }
+    Ok(())
+}
+
+#[test]
+fn limits_stand_between_forms_and_codes(rt: HostRuntime) -> Result<(), Fail> {
+    let alloc = rt.alloc();
+    let teams = repeated(
+        alloc,
+        r#"{"code":"bbb","pot":1,"tags":["X"],"group":"A"}"#,
+        41,
+    )?;
+    let many = repeated(alloc, "[\"\",\"\"]", 65)?;
+    for (pairs, fault) in [
+        (many.as_str(), "TooMany Teams 41"),
+        ("[]", "TooMany Teams 41"),
+        ("[[]]", "FieldWrong Pairs"),
+    ] {
+        let head = format!(in alloc; r#"{{"pairs":{pairs},"kind":"pairing","teams":{teams}}}"#)?;
+        assert!(rt; told(alloc, head.as_str())?.as_str() == fault);
+    }
+    let head = format!(in alloc;
+        r#"{{"pairs":{many},"kind":"pairing","teams":[{{"code":"bbb","pot":1,"tags":["X"],"group":"A"}}]}}"#
+    )?;
+    assert!(rt; told(alloc, head.as_str())?.as_str() == "TooMany Pairs 65");
     Ok(())
 }
 

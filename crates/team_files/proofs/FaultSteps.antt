@@ -1,0 +1,187 @@
+-- What each step of reading a head says of the value: its part of the head, or that the fault of its number holds.
+use Rattle.std.proofs.Common.{◌≡◌, ℕ, zero, suc, ◌+◌, Bool, true, false, not, cond, List, [], ◌∷◌, length, map, refl, sym, ap, ◌∙◌, Option, Some, None, Result, Ok, Err, arith}
+use Rattle.std.specs.Prelude.{◌==◌, nat_lt, codes, if◌then◌else◌, position, count_by, is_none, unwrap_or, option_map, option_and_then}
+use Rattle.std.specs.List.{list_all, position_or_len, fold}
+use Rattle.std.specs.Option.{option_or}
+use Rattle.std.proofs.lemmas.Bool.Decides.{nat_tests}
+use Rattle.serde_json.specs.Data.{Data}
+use Rattle.serde_json.specs.Find.{get, as_str}
+use Rattle.team_files.specs.declared.fault.Field.{Field}
+use Rattle.team_files.specs.declared.fault.FileFault.{FileFault}
+use Rattle.team_files.specs.declared.fields.TeamFields.{TeamFields}
+use Rattle.team_files.specs.declared.fields.HeadFields.{HeadFields}
+use Rattle.team_files.specs.declared.head_pair.HeadPair.{HeadPair}
+use Rattle.team_files.specs.declared.team.Team.{Team}
+use Rattle.team_files.specs.Characters.{is_code}
+use Rattle.team_files.specs.Answers.{after}
+use Rattle.team_files.specs.Members.{lacks, is_object, list_of, text_in, list_in, letter_of, tags_in, where_true}
+use Rattle.team_files.specs.Heads.{or_wrong, name_in, pot_in, team_fields, all_team_fields, objects_in, pair_of_texts, pairs_of_texts, pairs_in, head_fields, name_of, team_of, teams_from, pot_size}
+use Rattle.team_files.specs.Codes.{codes_of}
+use Rattle.team_files.specs.Faults.{team_values, pair_values, code_at, pot_at, codes_in, pots_in, wrong_if, wrong_in_team, wrong_in_teams, wrong_fault}
+
+-- ---- the fields of a team
+
+abbrev pub TeamTold : Result TeamFields FileFault → Option FileFault → Option (List ℕ) → Option ℕ → Type 0
+TeamTold (Ok f) wrong code pot = (wrong ≡ None) × (code ≡ Some f.code) × (pot ≡ Some f.pot)
+TeamTold (Err g) wrong code pot = wrong ≡ Some g
+
+team_parts : (code : Option (List ℕ)) (name : Option (Option (List ℕ))) (pot : Option ℕ) (tags : Option (List (List ℕ))) (letter : Option ℕ)
+    → TeamTold (after (or_wrong code Field.Code) (λ c. after (or_wrong name Field.Name) (λ n. after (or_wrong pot Field.Pot) (λ p. after (or_wrong tags Field.Tags) (λ t. after (or_wrong letter Field.Group) (λ l.
+    Ok (record { code = c; name = n; pot = p; tags = t; group_letter = l })))))))
+    (option_or (wrong_if (is_none code) Field.Code) (option_or (wrong_if (is_none name) Field.Name) (option_or (wrong_if (is_none pot) Field.Pot) (option_or (wrong_if (is_none tags) Field.Tags) (wrong_if (is_none letter) Field.Group)))))
+    code pot
+team_parts None name pot tags letter = refl
+team_parts (Some c) None pot tags letter = refl
+team_parts (Some c) (Some n) None tags letter = refl
+team_parts (Some c) (Some n) (Some p) None letter = refl
+team_parts (Some c) (Some n) (Some p) (Some t) None = refl
+team_parts (Some c) (Some n) (Some p) (Some t) (Some l) = (refl, refl, refl)
+
+team_told : (d : Data) → TeamTold (team_fields d) (wrong_in_team d) (text_in (codes "code") d) (pot_in d)
+team_told d = team_parts (text_in (codes "code") d) (name_in d) (pot_in d) (tags_in (codes "tags") d) (option_and_then letter_of (text_in (codes "group") d))
+
+abbrev pub TeamsTold : Result (List TeamFields) FileFault → Option FileFault → List Data → Type 0
+TeamsTold (Ok fs) wrong ds = (wrong ≡ None) × (length fs ≡ length ds) × (map (λ f. f.code) fs ≡ map code_at ds) × (map (λ f. f.pot) fs ≡ map pot_at ds)
+TeamsTold (Err g) wrong ds = wrong ≡ Some g
+
+one_more : (r : Result TeamFields FileFault) (w : Option FileFault) (s : Result (List TeamFields) FileFault) (ws : Option FileFault) (d : Data) (ds : List Data)
+    → TeamTold r w (text_in (codes "code") d) (pot_in d) → TeamsTold s ws ds
+    → TeamsTold (after r (λ team. after s (λ teams. Ok (team ∷ teams)))) (option_or w ws) (d ∷ ds)
+one_more (Err g) w s ws d ds h k = rw h refl
+one_more (Ok f) w (Err g) ws d ds h k = rw h.0 k
+one_more (Ok f) w (Ok fs) ws d ds h k = (
+  rw h.0 k.0,
+  ap (λ n. suc n) k.1,
+  rw h.1 (ap (λ l. f.code ∷ l) k.2),
+  rw h.2 (ap (λ l. f.pot ∷ l) k.3),
+)
+
+teams_told : (ds : List Data) → TeamsTold (all_team_fields ds) (wrong_in_teams ds) ds
+teams_told [] = (refl, refl, refl, refl)
+teams_told (d ∷ ds) = one_more (team_fields d) (wrong_in_team d) (all_team_fields ds) (wrong_in_teams ds) d ds (team_told d) (teams_told ds)
+
+-- ---- the fields of the head
+
+objects_are : (m : Option (List Data)) (os : List Data) → option_and_then (λ ds. where_true (list_all is_object ds) ds) m ≡ Some os → unwrap_or m [] ≡ os
+objects_are None os e = cc
+objects_are (Some ds) os e = go (list_all is_object ds) e
+  where
+    go : (b : Bool) → where_true b ds ≡ Some os → ds ≡ os
+    go true h = cc
+    go false h = cc
+
+one_pair : (p : Option HeadPair) (r : Option (List HeadPair)) (ps : List HeadPair) (n : ℕ)
+    → option_and_then (λ pair. option_map (λ pairs. pair ∷ pairs) r) p ≡ Some ps → ((qs : List HeadPair) → r ≡ Some qs → length qs ≡ n) → length ps ≡ suc n
+one_pair None r ps n e rest = cc
+one_pair (Some p) None ps n e rest = cc
+one_pair (Some p) (Some qs) ps n e rest = let is : p ∷ qs ≡ ps = cc in rw (← is) (ap (λ k. suc k) (rest qs refl))
+
+texts_length : (ds : List Data) (ps : List HeadPair) → pairs_of_texts ds ≡ Some ps → length ps ≡ length ds
+texts_length [] ps e = let none : ps ≡ [] = cc in rw none refl
+texts_length (d ∷ ds) ps e = one_pair (option_and_then pair_of_texts (list_of d)) (pairs_of_texts ds) ps (length ds) e (λ qs h. texts_length ds qs h)
+
+pairs_length : (m : Option Data) (ps : List HeadPair)
+    → (if is_none m then Some [] else option_and_then pairs_of_texts (option_and_then list_of m)) ≡ Some ps
+    → length ps ≡ length (unwrap_or (option_and_then list_of m) [])
+pairs_length None ps e = let none : ps ≡ [] = cc in rw none refl
+pairs_length (Some v) ps e = go (list_of v) e
+  where
+    go : (l : Option (List Data)) → option_and_then pairs_of_texts l ≡ Some ps → length ps ≡ length (unwrap_or l [])
+    go None h = cc
+    go (Some ds) h = texts_length ds ps h
+
+abbrev pub FieldsTold : Result HeadFields FileFault → Option FileFault → Data → Type 0
+FieldsTold (Ok fields) wrong d =
+    (wrong ≡ None)
+    × (length fields.teams ≡ length (team_values d))
+    × (map (λ f. f.code) fields.teams ≡ codes_in d)
+    × (map (λ f. f.pot) fields.teams ≡ pots_in d)
+    × (length fields.pairs ≡ length (pair_values d))
+FieldsTold (Err g) wrong d = wrong ≡ Some g
+
+pub fields_told : (d : Data) → FieldsTold (head_fields d) (wrong_fault d) d
+fields_told d = go (objects_in (codes "teams") d) refl
+  where
+    inner : (os : List Data) (r : Result (List TeamFields) FileFault) (p : Option (List HeadPair))
+        → team_values d ≡ os → TeamsTold r (wrong_in_teams os) os → pairs_in d ≡ p
+        → FieldsTold (after r (λ teams. after (or_wrong p Field.Pairs) (λ pairs. Ok (record { teams = teams; pairs = pairs })))) (option_or (wrong_in_teams (team_values d)) (wrong_if (is_none p) Field.Pairs)) d
+    inner os (Err g) p vals h e = rw vals (rw h refl)
+    inner os (Ok fs) None vals h e = rw vals (rw h.0 refl)
+    inner os (Ok fs) (Some ps) vals h e = (
+      rw vals (rw h.0 refl),
+      rw vals h.1,
+      rw vals h.2,
+      rw vals h.3,
+      pairs_length (get (codes "pairs") d) ps e,
+    )
+
+    go : (o : Option (List Data)) → objects_in (codes "teams") d ≡ o
+        → FieldsTold
+        (after (or_wrong o Field.Teams) (λ objects. after (all_team_fields objects) (λ teams. after (or_wrong (pairs_in d) Field.Pairs) (λ pairs. Ok (record { teams = teams; pairs = pairs })))))
+        (option_or (wrong_if (is_none o) Field.Teams) (option_or (wrong_in_teams (team_values d)) (wrong_if (is_none (pairs_in d)) Field.Pairs))) d
+    go None e = refl
+    go (Some os) e = inner os (all_team_fields os) (pairs_in d) (objects_are (list_in (codes "teams") d) os e) (teams_told os) refl
+
+-- ---- the codes
+
+-- the first place with no code, counted from i
+abbrev bad_from : ℕ → List (List ℕ) → Option FileFault
+bad_from i [] = None
+bad_from i (c ∷ cs) = if is_code c then bad_from (i + 1) cs else Some (FileFault.BadCode i)
+
+abbrev pub CodesTold : Result (List Team) FileFault → Option FileFault → List TeamFields → Type 0
+CodesTold (Ok ts) bad fs = (bad ≡ None) × (codes_of ts ≡ map (λ f. f.code) fs) × (map (λ t. t.pot) ts ≡ map (λ f. f.pot) fs)
+CodesTold (Err g) bad fs = bad ≡ Some g
+
+one_code : (b : Bool) (i : ℕ) (f : TeamFields) (s : Result (List Team) FileFault) (bad : Option FileFault) (fs : List TeamFields) → CodesTold s bad fs
+    → CodesTold
+    (after (if b then Ok (record { code = f.code; name = name_of f.code f.name; pot = f.pot; tags = f.tags; group_letter = Some f.group_letter }) else Err (FileFault.BadCode i)) (λ team. after s (λ teams. Ok (team ∷ teams))))
+    (if b then bad else Some (FileFault.BadCode i)) (f ∷ fs)
+one_code false i f s bad fs h = refl
+one_code true i f (Err g) bad fs h = h
+one_code true i f (Ok ts) bad fs h = (h.0, ap (λ l. f.code ∷ l) h.1, ap (λ l. f.pot ∷ l) h.2)
+
+codes_from : (i : ℕ) (fs : List TeamFields) → CodesTold (teams_from i fs) (bad_from i (map (λ f. f.code) fs)) fs
+codes_from i [] = (refl, refl, refl)
+codes_from i (f ∷ fs) = one_code (is_code f.code) i f (teams_from (i + 1) fs) (bad_from (i + 1) (map (λ x. x.code) fs)) fs (codes_from (i + 1) fs)
+
+abbrev bad_place : Bool → ℕ → Option FileFault
+bad_place there place = cond there (Some (FileFault.BadCode place)) None
+
+abbrev first_bad : List (List ℕ) → ℕ
+first_bad cs = position_or_len (λ c. not (is_code c)) cs
+
+one_place : (b : Bool) (n l i : ℕ) (rest : Option FileFault) → rest ≡ bad_place (nat_lt n l) ((i + 1) + n)
+    → (if b then rest else Some (FileFault.BadCode i)) ≡ bad_place (nat_lt (cond (not (not b)) (1 + n) 0) (suc l)) (i + cond (not (not b)) (1 + n) 0)
+one_place false n l i rest h =
+    let is : nat_lt 0 (suc l) ≡ true = grind (arith, nat_tests) in
+    let same : i + 0 ≡ i = omega arith in
+    rw is (rw same refl)
+one_place true n l i rest h =
+    let is : nat_lt (1 + n) (suc l) ≡ nat_lt n l = grind (arith, nat_tests) in
+    let same : i + (1 + n) ≡ (i + 1) + n = omega arith in
+    h ∙ rw is (rw same refl)
+
+bad_is : (i : ℕ) (cs : List (List ℕ)) → bad_from i cs ≡ bad_place (nat_lt (first_bad cs) (length cs)) (i + first_bad cs)
+bad_is i [] = refl
+bad_is i (c ∷ cs) = one_place (is_code c) (first_bad cs) (length cs) i (bad_from (i + 1) cs) (bad_is (i + 1) cs)
+
+bad_position : (cs : List (List ℕ)) → bad_from 0 cs ≡ option_map (λ place. FileFault.BadCode place) (position (λ c. not (is_code c)) cs)
+bad_position cs = bad_is 0 cs ∙ go (nat_lt (first_bad cs) (length cs)) (first_bad cs)
+  where
+    go : (b : Bool) (n : ℕ) → bad_place b (0 + n) ≡ option_map (λ place. FileFault.BadCode place) (cond b (Some n) None)
+    go true n = let same : 0 + n ≡ n = omega arith in rw same refl
+    go false n = refl
+
+pub codes_told : (fs : List TeamFields) → CodesTold (teams_from 0 fs) (option_map (λ place. FileFault.BadCode place) (position (λ c. not (is_code c)) (map (λ f. f.code) fs))) fs
+codes_told fs = rw (← bad_position (map (λ f. f.code) fs)) (codes_from 0 fs)
+
+-- ---- the sizes of the pots
+
+counted_from : (pot a : ℕ) (ts : List Team)
+    → fold (λ n t. n + cond (t.pot == pot) 1 0) a ts ≡ fold (λ n p. n + cond (p == pot) 1 0) a (map (λ t. t.pot) ts)
+counted_from pot a [] = refl
+counted_from pot a (t ∷ ts) = counted_from pot (a + cond (t.pot == pot) 1 0) ts
+
+pub counted : (pot : ℕ) (ts : List Team) → pot_size pot ts ≡ count_by (λ p. p == pot) (map (λ t. t.pot) ts)
+counted pot ts = counted_from pot 0 ts

@@ -1,0 +1,381 @@
+-- Reading a value as a head tells the first fault of the table.
+use Rattle.std.proofs.Common.{◌≡◌, ◌≢◌, ℕ, zero, suc, ◌+◌, ◌<◌, ◌≤◌, ◌⊎◌, inl, inr, Bool, true, false, not, List, [], ◌∷◌, length, map, slice_get, refl, sym, ap, subst, ◌∙◌, Option, Some, None, Result, Ok, Err, arith}
+use Rattle.std.specs.Prelude.{◌==◌, ◌||◌, ◌↔◌, bytes_eq, nat_lt, codes, if◌then◌else◌, position, is_none, option_map, option_and_then}
+use Rattle.std.specs.Option.{option_or}
+use Rattle.std.specs.Result.{result_err}
+use Rattle.std.proofs.lemmas.Bool.{cases_order}
+use Rattle.std.proofs.lemmas.Slice.Eq.{bytes_eq-Decides}
+use Rattle.serde_json.specs.Data.{Data}
+use Rattle.serde_json.specs.Find.{get, as_str}
+use Rattle.team_files.specs.declared.fault.Field.{Field}
+use Rattle.team_files.specs.declared.fault.FileFault.{FileFault}
+use Rattle.team_files.specs.declared.fields.HeadFields.{HeadFields}
+use Rattle.team_files.specs.declared.team.Team.{Team}
+use Rattle.team_files.specs.Characters.{is_code}
+use Rattle.team_files.specs.Answers.{after, unless}
+use Rattle.team_files.specs.Members.{lacks, is_object, text_in, list_in}
+use Rattle.team_files.specs.Heads.{Head, object_fault, fault_of_kind, fault_of_kind_text, kind_fault, missing_if, missing_in_team, missing_in_teams, missing_in_list, missing_fault, head_fields, too_many_fault, teams_from, same_code_fault, pot_size, pot_size_fault, pairing_head, head_of}
+use Rattle.team_files.specs.Codes.{codes_of, IsFirstRepeat}
+use Rattle.team_files.specs.Faults
+use Rattle.team_files.specs.Faults.{team_values, pair_values, codes_in, pots_in, is_pairing, is_not_built, wrong_if, wrong_in_team, wrong_in_teams, wrong_fault, too_many_of, size_of_pot, pot_size_of, Holds, order_of, IsFirstFault, TellsFirstFault}
+use Rattle.team_files.proofs.CodeLaws.{FirstRepeatTold, first_told, told_back}
+use Rattle.team_files.proofs.FaultSteps.{FieldsTold, fields_told, CodesTold, codes_told, counted}
+
+-- ---- the table as a list: at place n the fault of number n + 2, where it holds
+
+-- teams of which only the codes are known
+abbrev only_codes : List (List ℕ) → List Team
+only_codes [] = []
+only_codes (c ∷ cs) = record { code = c; name = []; pot = 0; tags = []; group_letter = None } ∷ only_codes cs
+
+codes_only : (cs : List (List ℕ)) → codes_of (only_codes cs) ≡ cs
+codes_only [] = refl
+codes_only (c ∷ cs) = ap (λ l. c ∷ l) (codes_only cs)
+
+abbrev same_in : Data → Option FileFault
+same_in d = same_code_fault (only_codes (codes_in d))
+
+abbrev bad_in : Data → Option FileFault
+bad_in d = option_map (λ place. FileFault.BadCode place) (position (λ c. not (is_code c)) (codes_in d))
+
+abbrev many_in : Data → Option FileFault
+many_in d = too_many_of (length (team_values d)) (length (pair_values d))
+
+abbrev sizes_in : Data → Option FileFault
+sizes_in d = pot_size_of (size_of_pot 1 d) (size_of_pot 2 d)
+
+abbrev table : Data → List (Option FileFault)
+table d = object_fault d ∷ kind_fault d ∷ missing_fault d ∷ wrong_fault d ∷ many_in d ∷ bad_in d ∷ same_in d ∷ sizes_in d ∷ []
+
+abbrev first_of : List (Option FileFault) → Option FileFault
+first_of [] = None
+first_of (o ∷ os) = option_or o (first_of os)
+
+-- ---- head_of goes through the table
+
+same_codes : (ts us : List Team) → codes_of ts ≡ codes_of us → same_code_fault ts ≡ same_code_fault us
+same_codes ts us e = go (same_code_fault ts) (same_code_fault us) refl refl
+  where
+    over : (a b : List Team) (f : FileFault) → codes_of a ≡ codes_of b → same_code_fault a ≡ Some f → same_code_fault b ≡ Some f
+    over a b f is h =
+        let t = first_told a f h in
+        told_back b f (t.0, t.1, t.2, subst (λ cs. IsFirstRepeat cs t.0 t.1) is t.3)
+
+    go : (r s : Option FileFault) → same_code_fault ts ≡ r → same_code_fault us ≡ s → same_code_fault ts ≡ same_code_fault us
+    go None None p q = p ∙ sym q
+    go (Some f) s p q = p ∙ sym (over ts us f e p)
+    go None (Some f) p q = over us ts f (sym e) q ∙ sym q
+
+past : {A : Type 0} (o : Option FileFault) (rest : Result A FileFault) (os : Option FileFault) → result_err rest ≡ os → result_err (unless o rest) ≡ option_or o os
+past None rest os h = h
+past (Some f) rest os h = refl
+
+sizes_are : (d : Data) (ts : List Team) → map (λ t. t.pot) ts ≡ pots_in d → pot_size_fault ts ≡ sizes_in d
+sizes_are d ts e =
+    let one : pot_size 1 ts ≡ size_of_pot 1 d = rw (← e) (counted 1 ts) in
+    let two : pot_size 2 ts ≡ size_of_pot 2 d = rw (← e) (counted 2 ts) in
+    rw (← one) (rw (← two) refl)
+
+last : (d : Data) (fields : HeadFields) (ts : List Team) → codes_of ts ≡ codes_in d → map (λ t. t.pot) ts ≡ pots_in d
+    → result_err (unless (same_code_fault ts) (unless (pot_size_fault ts) (Ok (pairing_head ts fields.pairs)))) ≡ first_of (same_in d ∷ sizes_in d ∷ [])
+last d fields ts e p =
+    let same : same_code_fault ts ≡ same_in d = same_codes ts (only_codes (codes_in d)) (e ∙ sym (codes_only (codes_in d))) in
+    let sizes = sizes_are d ts p in
+    rw (← same) (rw (← sizes) (past (same_code_fault ts) _ _ (past (pot_size_fault ts) _ _ refl)))
+
+with_codes : (d : Data) (fields : HeadFields) (r : Result (List Team) FileFault)
+    → map (λ f. f.code) fields.teams ≡ codes_in d → map (λ f. f.pot) fields.teams ≡ pots_in d → CodesTold r (bad_in d) fields.teams
+    → result_err (after r (λ teams. unless (same_code_fault teams) (unless (pot_size_fault teams) (Ok (pairing_head teams fields.pairs))))) ≡ first_of (bad_in d ∷ same_in d ∷ sizes_in d ∷ [])
+with_codes d fields (Err g) e p h = rw h refl
+with_codes d fields (Ok ts) e p h = rw h.0 (last d fields ts (h.1 ∙ e) (h.2 ∙ p))
+
+with_fields : (d : Data) (r : Result HeadFields FileFault) → FieldsTold r (wrong_fault d) d
+    → result_err (after r (λ fields. unless (too_many_fault fields) (after (teams_from 0 fields.teams) (λ teams. unless (same_code_fault teams) (unless (pot_size_fault teams) (Ok (pairing_head teams fields.pairs)))))))
+    ≡ first_of (wrong_fault d ∷ many_in d ∷ bad_in d ∷ same_in d ∷ sizes_in d ∷ [])
+with_fields d (Err g) h = rw h refl
+with_fields d (Ok fields) h =
+    let many : too_many_fault fields ≡ many_in d = rw (← h.1) (rw (← h.4) refl) in
+    let codes : CodesTold (teams_from 0 fields.teams) (bad_in d) fields.teams = rw (← h.2) (codes_told fields.teams) in
+    rw h.0 (rw (← many) (past (too_many_fault fields) _ _ (with_codes d fields (teams_from 0 fields.teams) h.2 h.3 codes)))
+
+goes_through : (d : Data) → result_err (head_of d) ≡ first_of (table d)
+goes_through d = past (object_fault d) _ _ (past (kind_fault d) _ _ (past (missing_fault d) _ _ (with_fields d (head_fields d) (fields_told d))))
+
+-- ---- each entry of the table is the fact of its fault
+
+-- the walk of absent members names no kind
+abbrev NamesAbsent : FileFault → Type 0
+NamesAbsent (FileFault.FieldMissing Field.Kind) = ⊥
+NamesAbsent (FileFault.FieldMissing member) = Unit {0}
+NamesAbsent _ = ⊥
+
+abbrev NamesWrong : FileFault → Type 0
+NamesWrong (FileFault.FieldWrong Field.Kind) = ⊥
+NamesWrong (FileFault.FieldWrong member) = Unit {0}
+NamesWrong _ = ⊥
+
+-- each fault that may be told has the property
+abbrev Only : (FileFault → Type 0) → Option FileFault → Type 0
+Only P None = Unit {0}
+Only P (Some f) = P f
+
+either : (P : FileFault → Type 0) (o p : Option FileFault) → Only P o → Only P p → Only P (option_or o p)
+either P None p h k = k
+either P (Some f) p h k = h
+
+only : (P : FileFault → Type 0) (o : Option FileFault) (f : FileFault) → Only P o → o ≡ Some f → P f
+only P None f h e = cc
+only P (Some g) f h e = let same : g ≡ f = cc in subst P same h
+
+absent : (b : Bool) (member : Field) → NamesAbsent (FileFault.FieldMissing member) → Only NamesAbsent (missing_if b member)
+absent true member h = h
+absent false member h = tt
+
+absent_in_team : (d : Data) → Only NamesAbsent (missing_in_team d)
+absent_in_team d = go (not (is_object d))
+  where
+    inner : Option FileFault
+    inner = missing_in_team d
+
+    go : (b : Bool) → Only NamesAbsent (if b then None else
+        option_or (missing_if (lacks (codes "code") d) Field.Code) (option_or (missing_if (lacks (codes "pot") d) Field.Pot) (option_or (missing_if (lacks (codes "tags") d) Field.Tags) (missing_if (lacks (codes "group") d) Field.Group))))
+    go true = tt
+    go false =
+        either NamesAbsent _ _ (absent (lacks (codes "code") d) Field.Code tt)
+        (either NamesAbsent _ _ (absent (lacks (codes "pot") d) Field.Pot tt)
+        (either NamesAbsent _ _ (absent (lacks (codes "tags") d) Field.Tags tt)
+        (absent (lacks (codes "group") d) Field.Group tt)))
+
+absent_in_teams : (ds : List Data) → Only NamesAbsent (missing_in_teams ds)
+absent_in_teams [] = tt
+absent_in_teams (d ∷ ds) = either NamesAbsent (missing_in_team d) (missing_in_teams ds) (absent_in_team d) (absent_in_teams ds)
+
+absent_in_head : (d : Data) → Only NamesAbsent (missing_fault d)
+absent_in_head d = either NamesAbsent (missing_if (lacks (codes "teams") d) Field.Teams) _ (absent (lacks (codes "teams") d) Field.Teams tt) (go (list_in (codes "teams") d))
+  where
+    go : (l : Option (List Data)) → Only NamesAbsent (missing_in_list l)
+    go None = tt
+    go (Some ds) = absent_in_teams ds
+
+wrong : (b : Bool) (member : Field) → NamesWrong (FileFault.FieldWrong member) → Only NamesWrong (wrong_if b member)
+wrong true member h = h
+wrong false member h = tt
+
+wrong_team : (a b c e g : Bool) → Only NamesWrong (option_or (wrong_if a Field.Code) (option_or (wrong_if b Field.Name) (option_or (wrong_if c Field.Pot) (option_or (wrong_if e Field.Tags) (wrong_if g Field.Group)))))
+wrong_team true b c e g = tt
+wrong_team false true c e g = tt
+wrong_team false false true e g = tt
+wrong_team false false false true g = tt
+wrong_team false false false false true = tt
+wrong_team false false false false false = tt
+
+wrong_teams : (ds : List Data) → Only NamesWrong (wrong_in_teams ds)
+wrong_teams [] = tt
+wrong_teams (d ∷ ds) = either NamesWrong (wrong_in_team d) (wrong_in_teams ds) (wrong_team _ _ _ _ _) (wrong_teams ds)
+
+wrong_in_head : (d : Data) → Only NamesWrong (wrong_fault d)
+wrong_in_head d = either NamesWrong _ _ (wrong _ Field.Teams tt) (either NamesWrong (wrong_in_teams (team_values d)) _ (wrong_teams (team_values d)) (wrong _ Field.Pairs tt))
+
+-- what stands at a place of the table
+abbrev Meant : Data → ℕ → FileFault → Type 0
+Meant d k f = Holds d f × (order_of f ≡ k + 2)
+
+absent_meant : (d : Data) (f : FileFault) → NamesAbsent f → missing_fault d ≡ Some f → Meant d 2 f
+absent_meant d (FileFault.FieldMissing Field.Kind) n e = absurd n
+absent_meant d (FileFault.FieldMissing member) n e = (e, refl)
+absent_meant d _ n e = absurd n
+
+wrong_meant : (d : Data) (f : FileFault) → NamesWrong f → wrong_fault d ≡ Some f → Meant d 3 f
+wrong_meant d (FileFault.FieldWrong Field.Kind) n e = absurd n
+wrong_meant d (FileFault.FieldWrong member) n e = (e, refl)
+wrong_meant d _ n e = absurd n
+
+object_meant : (d : Data) (f : FileFault) → object_fault d ≡ Some f → Meant d 0 f
+object_meant d f e = go (is_object d) refl e
+  where
+    go : (b : Bool) → is_object d ≡ b → (if b then None else Some FileFault.NotObject) ≡ Some f → Meant d 0 f
+    go true is h = cc
+    go false is h = let same : FileFault.NotObject ≡ f = cc in subst (Meant d 0) same (is, refl)
+
+kind_meant : (d : Data) (f : FileFault) → kind_fault d ≡ Some f → Meant d 1 f
+kind_meant d f e = go (lacks (codes "kind") d) refl e
+  where
+    known : (text : List ℕ) (a b : Bool) → text_in (codes "kind") d ≡ Some text → is_pairing text ≡ a → is_not_built text ≡ b
+        → (if a then None else (if b then Some FileFault.KindNotBuilt else Some (FileFault.KindUnknown text))) ≡ Some f → Meant d 1 f
+    known text true b t p q h = cc
+    known text false true t p q h = let same : FileFault.KindNotBuilt ≡ f = cc in subst (Meant d 1) same ((text, t, q), refl)
+    known text false false t p q h = let same : FileFault.KindUnknown text ≡ f = cc in subst (Meant d 1) same ((t, p, q), refl)
+
+    texts : (o : Option (List ℕ)) → lacks (codes "kind") d ≡ false → text_in (codes "kind") d ≡ o → fault_of_kind_text o ≡ Some f → Meant d 1 f
+    texts None is t h = let same : FileFault.FieldWrong Field.Kind ≡ f = cc in subst (Meant d 1) same ((is, t), refl)
+    texts (Some text) is t h = known text (is_pairing text) (is_not_built text) t refl refl h
+
+    go : (b : Bool) → lacks (codes "kind") d ≡ b → (if b then Some (FileFault.FieldMissing Field.Kind) else fault_of_kind_text (text_in (codes "kind") d)) ≡ Some f → Meant d 1 f
+    go true is h = let same : FileFault.FieldMissing Field.Kind ≡ f = cc in subst (Meant d 1) same (is, refl)
+    go false is h = texts (text_in (codes "kind") d) is refl h
+
+many_meant : (d : Data) (f : FileFault) → many_in d ≡ Some f → Meant d 4 f
+many_meant d f e = go (nat_lt 40 (length (team_values d))) (nat_lt 64 (length (pair_values d))) e e
+  where
+    go : (a b : Bool) → (if a then Some (FileFault.TooMany Field.Teams (length (team_values d))) else (if b then Some (FileFault.TooMany Field.Pairs (length (pair_values d))) else None)) ≡ Some f
+        → many_in d ≡ Some f → Meant d 4 f
+    go true b h k = let same : FileFault.TooMany Field.Teams (length (team_values d)) ≡ f = cc in subst (Meant d 4) same (k ∙ ap (λ x. Some x) (sym same), refl)
+    go false true h k = let same : FileFault.TooMany Field.Pairs (length (pair_values d)) ≡ f = cc in subst (Meant d 4) same (k ∙ ap (λ x. Some x) (sym same), refl)
+    go false false h k = cc
+
+bad_meant : (d : Data) (f : FileFault) → bad_in d ≡ Some f → Meant d 5 f
+bad_meant d f e = go (position (λ c. not (is_code c)) (codes_in d)) refl e
+  where
+    go : (o : Option ℕ) → position (λ c. not (is_code c)) (codes_in d) ≡ o → option_map (λ place. FileFault.BadCode place) o ≡ Some f → Meant d 5 f
+    go None is h = cc
+    go (Some place) is h = let same : FileFault.BadCode place ≡ f = cc in subst (Meant d 5) same (is, refl)
+
+same_meant : (d : Data) (f : FileFault) → same_in d ≡ Some f → Meant d 6 f
+same_meant d f e =
+    let t = first_told (only_codes (codes_in d)) f e in
+    subst (Meant d 6) (sym t.2) ((t.0, subst (λ cs. IsFirstRepeat cs t.0 t.1) (codes_only (codes_in d)) t.3), refl)
+
+sizes_meant : (d : Data) (f : FileFault) → sizes_in d ≡ Some f → Meant d 7 f
+sizes_meant d f e = go (size_of_pot 1 d == 0) (size_of_pot 2 d == size_of_pot 1 d) e e
+  where
+    go : (a b : Bool) → (if a then Some (FileFault.PotSize 1 0) else (if b then None else Some (FileFault.PotSize 2 (size_of_pot 2 d)))) ≡ Some f → sizes_in d ≡ Some f → Meant d 7 f
+    go true b h k = let same : FileFault.PotSize 1 0 ≡ f = cc in subst (Meant d 7) same (k ∙ ap (λ x. Some x) (sym same), refl)
+    go false true h k = cc
+    go false false h k = let same : FileFault.PotSize 2 (size_of_pot 2 d) ≡ f = cc in subst (Meant d 7) same (k ∙ ap (λ x. Some x) (sym same), refl)
+
+-- the entry at a place of a list
+abbrev EntryAt : List (Option FileFault) → ℕ → FileFault → Type 0
+EntryAt es k f = slice_get es k ≡ Some (Some f)
+
+inside : (o : Option FileFault) (f : FileFault) → Some o ≡ Some (Some f) → o ≡ Some f
+inside o f e = cc
+
+meant : (d : Data) (k : ℕ) (f : FileFault) → EntryAt (table d) k f → Meant d k f
+meant d zero f e = object_meant d f (inside (object_fault d) f e)
+meant d (suc zero) f e = kind_meant d f (inside (kind_fault d) f e)
+meant d (suc (suc zero)) f e = let h = inside (missing_fault d) f e in absent_meant d f (only NamesAbsent (missing_fault d) f (absent_in_head d) h) h
+meant d (suc (suc (suc zero))) f e = let h = inside (wrong_fault d) f e in wrong_meant d f (only NamesWrong (wrong_fault d) f (wrong_in_head d) h) h
+meant d (suc (suc (suc (suc zero)))) f e = many_meant d f (inside (many_in d) f e)
+meant d (suc (suc (suc (suc (suc zero))))) f e = bad_meant d f (inside (bad_in d) f e)
+meant d (suc (suc (suc (suc (suc (suc zero)))))) f e = same_meant d f (inside (same_in d) f e)
+meant d (suc (suc (suc (suc (suc (suc (suc zero))))))) f e = sizes_meant d f (inside (sizes_in d) f e)
+meant d (suc (suc (suc (suc (suc (suc (suc (suc k)))))))) f e = cc
+
+-- ---- each fault that holds stands in the table
+
+abbrev Stands : Data → FileFault → Type 0
+Stands d f = (k : ℕ) × EntryAt (table d) k f × (order_of f ≡ k + 2)
+
+text_not_lacking : (d : Data) (text : List ℕ) → text_in (codes "kind") d ≡ Some text → lacks (codes "kind") d ≡ false
+text_not_lacking d text e = go (get (codes "kind") d) e
+  where
+    go : (o : Option Data) → option_and_then as_str o ≡ Some text → is_none o ≡ false
+    go None h = cc
+    go (Some v) h = refl
+
+not_pairing : (text : List ℕ) → is_not_built text ≡ true → is_pairing text ≡ false
+not_pairing text e = go (is_pairing text) refl
+  where
+    go : (b : Bool) → is_pairing text ≡ b → is_pairing text ≡ false
+    go false is = is
+    go true is =
+        let same : text ≡ codes "pairing" = (bytes_eq-Decides text (codes "pairing")).0 is in
+        let built : is_not_built (codes "pairing") ≡ true = rw same at e in
+        cc
+
+kind_stands : (d : Data) (text : List ℕ) (f : FileFault) → text_in (codes "kind") d ≡ Some text → fault_of_kind text ≡ Some f → kind_fault d ≡ Some f
+kind_stands d text f t h = rw (text_not_lacking d text t) (rw t h)
+
+stands_all : (d : Data) (f : FileFault) → Holds d f → Stands d f
+stands_all d FileFault.NotJson h = absurd h
+stands_all d FileFault.NotObject h = let e : object_fault d ≡ Some FileFault.NotObject = rw h refl in (0, ap (λ o. Some o) e, refl)
+stands_all d (FileFault.KindUnknown text) h =
+    let told : fault_of_kind text ≡ Some (FileFault.KindUnknown text) = rw h.1 (rw h.2 refl) in
+    (1, ap (λ o. Some o) (kind_stands d text (FileFault.KindUnknown text) h.0 told), refl)
+stands_all d (FileFault.FieldMissing Field.Kind) h = let e : kind_fault d ≡ Some (FileFault.FieldMissing Field.Kind) = rw h refl in (1, ap (λ o. Some o) e, refl)
+stands_all d (FileFault.FieldMissing member) h = (2, ap (λ o. Some o) h, refl)
+stands_all d (FileFault.FieldWrong Field.Kind) h = let e : kind_fault d ≡ Some (FileFault.FieldWrong Field.Kind) = rw h.0 (rw h.1 refl) in (1, ap (λ o. Some o) e, refl)
+stands_all d (FileFault.FieldWrong member) h = (3, ap (λ o. Some o) h, refl)
+stands_all d (FileFault.TooMany what number) h = (4, ap (λ o. Some o) h, refl)
+stands_all d (FileFault.BadCode place) h =
+    let e : bad_in d ≡ Some (FileFault.BadCode place) = ap (λ o. option_map (λ p. FileFault.BadCode p) o) h in
+    (5, ap (λ o. Some o) e, refl)
+stands_all d (FileFault.SameCode code) h =
+    let t : FirstRepeatTold (only_codes (codes_in d)) (FileFault.SameCode code) = (h.0, code, refl, subst (λ cs. IsFirstRepeat cs h.0 code) (sym (codes_only (codes_in d))) h.1) in
+    (6, ap (λ o. Some o) (told_back (only_codes (codes_in d)) (FileFault.SameCode code) t), refl)
+stands_all d (FileFault.PotSize pot number) h = (7, ap (λ o. Some o) h, refl)
+stands_all d (FileFault.UnknownTag place) h = absurd h
+stands_all d (FileFault.BadPair place) h = absurd h
+stands_all d (FileFault.BadPlace place) h = absurd h
+stands_all d FileFault.NoMemory h = absurd h
+stands_all d FileFault.KindNotBuilt h =
+    let told : fault_of_kind h.0 ≡ Some FileFault.KindNotBuilt = rw (not_pairing h.0 h.2) (rw h.2 refl) in
+    (1, ap (λ o. Some o) (kind_stands d h.0 FileFault.KindNotBuilt h.1 told), refl)
+
+-- ---- the first entry
+
+first_entry : (es : List (Option FileFault)) (f : FileFault) → first_of es ≡ Some f
+    → (k : ℕ) × EntryAt es k f × ((j : ℕ) (g : FileFault) → j < k → ¬ EntryAt es j g)
+first_entry [] f e = cc
+first_entry (Some g ∷ es) f e = (zero, ap (λ o. Some o) e, λ j h lt at. omega (arith, lt))
+first_entry (None ∷ es) f e = let r = first_entry es f e in (suc r.0, r.1, later r.0 r.2)
+  where
+    later : (k : ℕ) → ((j : ℕ) (g : FileFault) → j < k → ¬ EntryAt es j g) → (j : ℕ) (g : FileFault) → j < suc k → ¬ EntryAt (None ∷ es) j g
+    later k rest zero g lt = λ at. cc
+    later k rest (suc j) g lt = rest j g (omega arith)
+
+no_entry : (es : List (Option FileFault)) → first_of es ≡ None → (k : ℕ) (f : FileFault) → ¬ EntryAt es k f
+no_entry [] e k f = λ at. cc
+no_entry (Some g ∷ es) e k f = λ at. cc
+no_entry (None ∷ es) e zero f = λ at. cc
+no_entry (None ∷ es) e (suc k) f = no_entry es e k f
+
+told_first : (d : Data) (f : FileFault) → head_of d ≡ Err f → IsFirstFault d f
+told_first d f e =
+    let told : first_of (table d) ≡ Some f = sym (goes_through d) ∙ ap (λ r. result_err r) e in
+    let t = first_entry (table d) f told in
+    let m = meant d t.0 f t.1 in
+    record { holds = m.0; first = λ other h. go t.0 t.2 m.1 other (stands_all d other h) }
+  where
+    go : (k : ℕ) → ((j : ℕ) (g : FileFault) → j < k → ¬ EntryAt (table d) j g) → order_of f ≡ k + 2 → (other : FileFault) → Stands d other → order_of f ≤ order_of other
+    go k before is other s = by (cases_order s.0 k)
+      where
+        by : (s.0 ≡ k) ⊎ ((s.0 < k) ⊎ (k < s.0)) → order_of f ≤ order_of other
+        by (inl same) = omega (arith, is, s.2, same)
+        by (inr (inl less)) = absurd (before s.0 other less s.1)
+        by (inr (inr more)) = omega (arith, is, s.2, more)
+
+none_holds : (d : Data) (h : Head) → head_of d ≡ Ok h → (f : FileFault) → ¬ Holds d f
+none_holds d h e f holds =
+    let told : first_of (table d) ≡ None = sym (goes_through d) ∙ ap (λ r. result_err r) e in
+    let s = stands_all d f holds in
+    no_entry (table d) told s.0 f s.1
+
+one_at : (d : Data) (f g : FileFault) → Stands d f → Stands d g → order_of f ≡ order_of g → f ≡ g
+one_at d f g s t e =
+    let place : s.0 ≡ t.0 = omega (arith, s.2, t.2, e) in
+    let here : EntryAt (table d) t.0 f = subst (λ n. EntryAt (table d) n f) place s.1 in
+    let there = t.1 in
+    cc
+
+first_is_told : (d : Data) (f : FileFault) → IsFirstFault d f → head_of d ≡ Err f
+first_is_told d f h = go (head_of d) refl
+  where
+    go : (r : Result Head FileFault) → head_of d ≡ r → head_of d ≡ Err f
+    go (Ok head) e = absurd (none_holds d head e f h.holds)
+    go (Err g) e =
+        let t = told_first d g e in
+        let low = h.first g t.holds in
+        let high = t.first f h.holds in
+        let same : order_of f ≡ order_of g = omega (arith, low, high) in
+        e ∙ ap (λ x. Err x) (sym (one_at d f g (stands_all d f h.holds) (stands_all d g t.holds) same))
+
+pub tells_first_fault : TellsFirstFault
+tells_first_fault = record {
+  fault = λ d f. ((λ e. told_first d f e), λ h. first_is_told d f h);
+  head = λ d. ((λ h. none_holds d h.0 h.1), λ none. whole d none (head_of d) refl);
+}
+  where
+    whole : (d : Data) → ((f : FileFault) → ¬ Holds d f) → (r : Result Head FileFault) → head_of d ≡ r → (head : Head) × (head_of d ≡ Ok head)
+    whole d none (Ok head) e = (head, e)
+    whole d none (Err f) e = absurd (none f (told_first d f e).holds)

@@ -1,0 +1,183 @@
+-- The table of a head's faults: when each holds of a value, and which is told first (this project's own).
+use Rattle.std.specs.Prelude.{◌≡◌, ℕ, ◌≤◌, ◌↔◌, ◌⊎◌, ◌==◌, ◌||◌, not, bytes_eq, nat_lt, codes, if◌then◌else◌, Bool, true, false, List, [], ◌∷◌, map, length, position, count_by, Option, Some, None, is_none, unwrap_or, option_and_then, Result, Ok, Err}
+use Rattle.std.specs.Option.{option_or}
+use Rattle.serde_json.specs.Data.{Data}
+use Rattle.team_files.specs.declared.fault.Field.{Field}
+use Rattle.team_files.specs.declared.fault.FileFault.{FileFault}
+use Rattle.team_files.specs.Characters.{is_code}
+use Rattle.team_files.specs.Members.{lacks, is_object, text_in, list_in, letter_of, tags_in}
+use Rattle.team_files.specs.Heads.{Head, name_in, pot_in, objects_in, pairs_in, missing_fault, most_teams, most_pairs, head_of}
+use Rattle.team_files.specs.Codes.{IsFirstRepeat}
+
+-- ---- what a value says
+
+-- the elements of `teams` and of `pairs`; none where there is no list
+abbrev pub team_values : Data → List Data
+team_values d = unwrap_or (list_in (codes "teams") d) []
+
+abbrev pub pair_values : Data → List Data
+pair_values d = unwrap_or (list_in (codes "pairs") d) []
+
+-- the codes and the pots of the teams, in file order
+abbrev pub code_at : Data → List ℕ
+code_at team = unwrap_or (text_in (codes "code") team) []
+
+abbrev pub pot_at : Data → ℕ
+pot_at team = unwrap_or (pot_in team) 0
+
+abbrev pub codes_in : Data → List (List ℕ)
+codes_in d = map code_at (team_values d)
+
+abbrev pub pots_in : Data → List ℕ
+pots_in d = map pot_at (team_values d)
+
+-- ---- 2 NotObject
+
+abbrev pub IsNotObject : Data → Type 0
+IsNotObject d = is_object d ≡ false
+
+-- ---- what is wrong with the kind: 4 and 5 of `kind`, 3 KindUnknown, 14 KindNotBuilt
+
+abbrev pub LacksKind : Data → Type 0
+LacksKind d = lacks (codes "kind") d ≡ true
+
+abbrev pub HasWrongKind : Data → Type 0
+HasWrongKind d = (lacks (codes "kind") d ≡ false) × (text_in (codes "kind") d ≡ None)
+
+abbrev pub HasKind : Data → List ℕ → Type 0
+HasKind d text = text_in (codes "kind") d ≡ Some text
+
+abbrev pub is_pairing : List ℕ → Bool
+is_pairing text = bytes_eq text (codes "pairing")
+
+abbrev pub is_not_built : List ℕ → Bool
+is_not_built text = bytes_eq text (codes "group") || bytes_eq text (codes "league")
+
+abbrev pub HasUnknownKind : Data → List ℕ → Type 0
+HasUnknownKind d text = HasKind d text × (is_pairing text ≡ false) × (is_not_built text ≡ false)
+
+abbrev pub HasKindNotBuilt : Data → Type 0
+HasKindNotBuilt d = (text : List ℕ) × HasKind d text × (is_not_built text ≡ true)
+
+-- ---- 4 FieldMissing: the first needed member that is absent, in the head and then in each team
+
+abbrev pub MissesField : Data → Field → Type 0
+MissesField d member = missing_fault d ≡ Some (FileFault.FieldMissing member)
+
+-- ---- 5 FieldWrong: the first member of another form or range, in the head and then in each team; last `pairs`
+
+abbrev pub wrong_if : Bool → Field → Option FileFault
+wrong_if wrong field = if wrong then Some (FileFault.FieldWrong field) else None
+
+abbrev pub wrong_in_team : Data → Option FileFault
+wrong_in_team d =
+    option_or (wrong_if (is_none (text_in (codes "code") d)) Field.Code)
+    (option_or (wrong_if (is_none (name_in d)) Field.Name)
+    (option_or (wrong_if (is_none (pot_in d)) Field.Pot)
+    (option_or (wrong_if (is_none (tags_in (codes "tags") d)) Field.Tags)
+    (wrong_if (is_none (option_and_then letter_of (text_in (codes "group") d))) Field.Group))))
+
+abbrev pub wrong_in_teams : List Data → Option FileFault
+wrong_in_teams [] = None
+wrong_in_teams (d ∷ ds) = option_or (wrong_in_team d) (wrong_in_teams ds)
+
+abbrev pub wrong_fault : Data → Option FileFault
+wrong_fault d =
+    option_or (wrong_if (is_none (objects_in (codes "teams") d)) Field.Teams)
+    (option_or (wrong_in_teams (team_values d))
+    (wrong_if (is_none (pairs_in d)) Field.Pairs))
+
+abbrev pub HasWrongField : Data → Field → Type 0
+HasWrongField d member = wrong_fault d ≡ Some (FileFault.FieldWrong member)
+
+-- ---- 6 TooMany: more than 40 teams, or else more than 64 pairs
+
+abbrev pub too_many_of : ℕ → ℕ → Option FileFault
+too_many_of teams pairs =
+    if nat_lt most_teams teams then Some (FileFault.TooMany Field.Teams teams) else (
+    if nat_lt most_pairs pairs then Some (FileFault.TooMany Field.Pairs pairs) else None)
+
+abbrev pub HasTooMany : Data → Field → ℕ → Type 0
+HasTooMany d what number = too_many_of (length (team_values d)) (length (pair_values d)) ≡ Some (FileFault.TooMany what number)
+
+-- ---- 7 BadCode: the first team whose code is none
+
+abbrev pub HasBadCode : Data → ℕ → Type 0
+HasBadCode d place = position (λ code. not (is_code code)) (codes_in d) ≡ Some place
+
+-- ---- 8 SameCode: the code of the first team whose code an earlier team has
+
+abbrev pub HasSameCode : Data → List ℕ → Type 0
+HasSameCode d code = (place : ℕ) × IsFirstRepeat (codes_in d) place code
+
+-- ---- 9 PotSize: pot 1 is empty, or else pot 2 is not of its size
+
+abbrev pub size_of_pot : ℕ → Data → ℕ
+size_of_pot pot d = count_by (λ p. p == pot) (pots_in d)
+
+abbrev pub pot_size_of : ℕ → ℕ → Option FileFault
+pot_size_of winners runners_up =
+    if winners == 0 then Some (FileFault.PotSize 1 0) else (
+    if runners_up == winners then None else Some (FileFault.PotSize 2 runners_up))
+
+abbrev pub HasPotSize : Data → ℕ → ℕ → Type 0
+HasPotSize d pot number = pot_size_of (size_of_pot 1 d) (size_of_pot 2 d) ≡ Some (FileFault.PotSize pot number)
+
+-- ---- the table
+
+abbrev pub HoldsMissing : Data → Field → Type 0
+HoldsMissing d Field.Kind = LacksKind d
+HoldsMissing d member = MissesField d member
+
+abbrev pub HoldsWrong : Data → Field → Type 0
+HoldsWrong d Field.Kind = HasWrongKind d
+HoldsWrong d member = HasWrongField d member
+
+-- When a fault holds of a value, whatever other faults hold of it. NotJson is told of bytes that are no value, BadPair of
+-- a head's pairs, UnknownTag and BadPlace of other kinds, and want of memory of no value.
+abbrev pub Holds : Data → FileFault → Type 0
+Holds d FileFault.NotJson = ⊥
+Holds d FileFault.NotObject = IsNotObject d
+Holds d (FileFault.KindUnknown text) = HasUnknownKind d text
+Holds d (FileFault.FieldMissing member) = HoldsMissing d member
+Holds d (FileFault.FieldWrong member) = HoldsWrong d member
+Holds d (FileFault.TooMany what number) = HasTooMany d what number
+Holds d (FileFault.BadCode place) = HasBadCode d place
+Holds d (FileFault.SameCode code) = HasSameCode d code
+Holds d (FileFault.PotSize pot number) = HasPotSize d pot number
+Holds d (FileFault.UnknownTag place) = ⊥
+Holds d (FileFault.BadPair place) = ⊥
+Holds d (FileFault.BadPlace place) = ⊥
+Holds d FileFault.NoMemory = ⊥
+Holds d FileFault.KindNotBuilt = HasKindNotBuilt d
+
+-- The order in which faults are told: that of their numbers, and what is wrong with the kind stands at 3.
+abbrev pub order_of_field : Field → ℕ → ℕ
+order_of_field Field.Kind number = 3
+order_of_field member number = number
+
+abbrev pub order_of : FileFault → ℕ
+order_of FileFault.NotJson = 1
+order_of FileFault.NotObject = 2
+order_of (FileFault.KindUnknown text) = 3
+order_of FileFault.KindNotBuilt = 3
+order_of (FileFault.FieldMissing member) = order_of_field member 4
+order_of (FileFault.FieldWrong member) = order_of_field member 5
+order_of (FileFault.TooMany what number) = 6
+order_of (FileFault.BadCode place) = 7
+order_of (FileFault.SameCode code) = 8
+order_of (FileFault.PotSize pot number) = 9
+order_of (FileFault.UnknownTag place) = 10
+order_of (FileFault.BadPair place) = 11
+order_of (FileFault.BadPlace place) = 12
+order_of FileFault.NoMemory = 13
+
+-- The first fault of a value: it holds, and no fault that holds is told before it.
+pub record IsFirstFault (d : Data) (fault : FileFault) : Type 0 where
+  pub holds : Holds d fault
+  pub first : (other : FileFault) → Holds d other → order_of fault ≤ order_of other
+
+-- Reading a value as a head tells its first fault, and gives a head exactly where no fault holds.
+pub record TellsFirstFault : Type 0 where
+  pub fault : (d : Data) (fault : FileFault) → (head_of d ≡ Err fault) ↔ IsFirstFault d fault
+  pub head : (d : Data) → ((head : Head) × (head_of d ≡ Ok head)) ↔ ((fault : FileFault) → ¬ Holds d fault)
