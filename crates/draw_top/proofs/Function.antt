@@ -39,7 +39,7 @@ answers_once file lines t u h g =
     let replies : h.1 ≡ g.1 = runs_once file (map command_of lines) [] [] h.0 g.0 0 h.1 g.1 refl offers h.2.run g.2.run in
     h.2.whole ∙ (rw (offers, replies) (sym g.2.whole))
 
-files_once : (bytes : List ℕ) (f g : DrawFile) → IsFileOf bytes f → IsFileOf bytes g → f ≡ g
+pub files_once : (bytes : List ℕ) (f g : DrawFile) → IsFileOf bytes f → IsFileOf bytes g → f ≡ g
 files_once bytes f g h k =
     let same : h.0 ≡ k.0 = both _ read_head h.1.0 k.1.0 h.0 k.0 h.1.1.value k.1.1.value h.1.2 k.1.2 in
     let P : Head → Type 0 = λ x. file_of x ≡ Ok f in

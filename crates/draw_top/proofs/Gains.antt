@@ -1,28 +1,32 @@
 -- What was read to its end is what the source held.
 use Rattle.std.proofs.Common.{◌≡◌, ℕ, List, [], ◌++◌, Option, Some, None, Result, Ok, Err, ◌⊎◌, inl, inr, refl, sym, ap, subst, ◌∙◌, append-nil, length, ◌<◌, ◌≤◌, arith}
+use Rattle.std.specs.Prelude.{IfSome, IsSomeAnd}
 use Rattle.std.specs.Io.KnownBytes.{Consumes, IsAtEnd, Appends}
 use Rattle.draw_ports.specs.Causes.{AppendsSome}
 use Rattle.team_files.specs.declared.fault.FileFault.{FileFault}
 use Rattle.team_files.specs.Heads.{Head, head_of as read_head}
 use Rattle.rule_sets.specs.Files.{DrawFile, file_of, IsFileOf, IsFileFault}
 use Rattle.draw_lines.specs.Inputs.{head_of}
-use Rattle.draw_top.specs.Follow.{IsAnswerOf, IsRefusalOf, GainsAnswer, GainsRefusal, GainsPart, HoldsFile, HoldsNoFile, TellsTooMuch, input_limit}
+use Rattle.draw_top.specs.Follow.{IsAnswerOf, IsRefusalOf, HasFile, Gains, GainsSome, input_limit}
 
-module _ (input text : List ℕ) where
-  pub gains_answer : (left rest old new : Option (List ℕ)) → Consumes left rest input → IsAtEnd rest → IsAnswerOf input text → Appends old new text → GainsAnswer left old new
-  gains_answer None rest old new p q h e = tt
-  gains_answer (Some x) None old new p q h e = absurd p
-  gains_answer (Some x) (Some y) old new p q h e = let same : x ≡ input = p ∙ ap (λ l. input ++ l) q ∙ append-nil input in rw same (text, h, e)
+-- what the source told is what was read
+pub read_all_of : (input : List ℕ) (left rest : Option (List ℕ)) (P : List ℕ → Type 0) → Consumes left rest input → IsAtEnd rest → P input → IfSome left P
+read_all_of input None rest P p q h = tt
+read_all_of input (Some x) None P p q h = absurd p
+read_all_of input (Some x) (Some y) P p q h = let same : x ≡ input = p ∙ ap (λ l. input ++ l) q ∙ append-nil input in subst P (sym same) h
 
-  pub gains_refusal : (left rest old new : Option (List ℕ)) → Consumes left rest input → IsAtEnd rest → IsRefusalOf input text → Appends old new text → GainsRefusal left old new
-  gains_refusal None rest old new p q h e = tt
-  gains_refusal (Some x) None old new p q h e = absurd p
-  gains_refusal (Some x) (Some y) old new p q h e = let same : x ≡ input = p ∙ ap (λ l. input ++ l) q ∙ append-nil input in rw same (text, h, e)
+-- what the source tells is so of what was read
+pub told : (input : List ℕ) (left rest : Option (List ℕ)) (P : List ℕ → Type 0) → Consumes left rest input → IsAtEnd rest → IsSomeAnd left P → P input
+told input None rest P p q h = absurd h
+told input (Some x) None P p q h = absurd p
+told input (Some x) (Some y) P p q h = let same : x ≡ input = p ∙ ap (λ l. input ++ l) q ∙ append-nil input in subst P same h
 
-  pub gains_part : (left rest old new : Option (List ℕ)) → Consumes left rest input → IsAtEnd rest → IsAnswerOf input text ⊎ IsRefusalOf input text → AppendsSome old new text → GainsPart left old new
-  gains_part None rest old new p q h e = tt
-  gains_part (Some x) None old new p q h e = absurd p
-  gains_part (Some x) (Some y) old new p q h e = let same : x ≡ input = p ∙ ap (λ l. input ++ l) q ∙ append-nil input in rw same (text, h, e)
+module _ (IsSo : List ℕ → List ℕ → Type 0) (input text : List ℕ) (left rest old new : Option (List ℕ)) where
+  pub gains : Consumes left rest input → IsAtEnd rest → IsSo input text → Appends old new text → Gains IsSo left old new
+  gains p q h e = read_all_of input left rest (λ i. (t : List ℕ) × IsSo i t × Appends old new t) p q (text, h, e)
+
+  pub gains_some : Consumes left rest input → IsAtEnd rest → IsSo input text → AppendsSome old new text → GainsSome IsSo left old new
+  gains_some p q h e = read_all_of input left rest (λ i. (t : List ℕ) × IsSo i t × AppendsSome old new t) p q (text, h, e)
 
 -- one reading gives a value or a fault, and not both
 either : {D H F : Type 0} (read : Option D) (step : D → Result H F) (d e : D) (h : H) (f : F) → read ≡ Some d → read ≡ Some e → step d ≡ Ok h → step e ≡ Err f → ⊥
@@ -47,29 +51,13 @@ excluded bytes file fault h (inr g) =
     differ (file_of g.0) file fault (subst P same h.2) g.2
 
 -- An input that has a file is not refused.
-pub not_refused : (input text : List ℕ) (left rest : Option (List ℕ)) → Consumes left rest input → IsAtEnd rest → HoldsFile left → IsRefusalOf input text → ⊥
-not_refused input text None rest p q h r = absurd h
-not_refused input text (Some x) None p q h r = absurd p
-not_refused input text (Some x) (Some y) p q h r =
-    let same : x ≡ input = p ∙ ap (λ l. input ++ l) q ∙ append-nil input in
-    let Q : List ℕ → Type 0 = λ i. (file : DrawFile) × IsFileOf (head_of i) file in
-    let found : (file : DrawFile) × IsFileOf (head_of input) file = subst Q same h.1 in
-    excluded (head_of input) found.0 r.0 found.1 r.1
+pub not_refused : (input text : List ℕ) → HasFile input → IsRefusalOf input text → ⊥
+not_refused input text h r = excluded (head_of input) h.0 r.0 h.1 r.1
 
 -- An input that has no file is not answered.
-pub not_answered : (input text : List ℕ) (left rest : Option (List ℕ)) → Consumes left rest input → IsAtEnd rest → HoldsNoFile left → IsAnswerOf input text → ⊥
-not_answered input text None rest p q h r = absurd h
-not_answered input text (Some x) None p q h r = absurd p
-not_answered input text (Some x) (Some y) p q h r =
-    let same : input ≡ x = sym (p ∙ ap (λ l. input ++ l) q ∙ append-nil input) in
-    let Q : List ℕ → Type 0 = λ i. (file : DrawFile) × IsFileOf (head_of i) file in
-    h.1 (subst Q same (r.0, r.1))
+pub not_answered : (input text : List ℕ) → (HasFile input → ⊥) → IsAnswerOf input text → ⊥
+not_answered input text h r = h (r.0, r.1)
 
 -- An input that was read is not too long.
-pub not_too_long : (input : List ℕ) (left rest : Option (List ℕ)) → Consumes left rest input → IsAtEnd rest → length input ≤ input_limit → TellsTooMuch left → ⊥
-not_too_long input None rest p q le h = absurd h
-not_too_long input (Some x) None p q le h = absurd p
-not_too_long input (Some x) (Some y) p q le h =
-    let same : x ≡ input = p ∙ ap (λ l. input ++ l) q ∙ append-nil input in
-    let lengths : length x ≡ length input = ap length same in
-    omega arith
+pub not_too_long : (input : List ℕ) → length input ≤ input_limit → input_limit < length input → ⊥
+not_too_long input le lt = omega arith

@@ -1,14 +1,13 @@
 -- What `drawcheck judge` writes: what the written rules say of a table.
-use Rattle.std.specs.Prelude.{◌≡◌, ℕ, ◌≤◌, List, [], ◌∷◌, ◌++◌, length, codes, Option, IsSomeAnd, IfSome, ◌⊎◌}
+use Rattle.std.specs.Prelude.{◌≡◌, ℕ, ◌≤◌, List, [], ◌∷◌, ◌++◌, length, codes, Option, IsSomeAnd, ◌⊎◌}
 use Rattle.std.specs.Fmt.{decimal}
-use Rattle.draw_ports.specs.Causes.{AppendsSome}
 use Rattle.rule_sets.specs.Files.{DrawFile, IsFileOf}
 use Rattle.draw_tables.specs.declared.table.Table.{Table}
 use Rattle.draw_tables.specs.Tables.{IsLegal}
 use Rattle.draw_tables.specs.TableTexts.{IsTextOf}
 use Rattle.draw_tables.specs.Verdicts.{IsFirstBroken}
 use Rattle.draw_lines.specs.Inputs.{head_of, command_lines}
-use Rattle.draw_top.specs.Follow.{Gains, HasFile, IsRefusalOf, input_limit}
+use Rattle.draw_top.specs.Follow.{Gains, GainsSome, HasFile, IsRefusalOf, input_limit}
 
 -- The words' one form: the word judge alone.
 abbrev pub IsJudge : List (List ℕ) → Type 0
@@ -63,8 +62,7 @@ GainsObjection left old new = Gains IsObjectionTo left old new
 
 -- some first bytes of what it was to gain
 abbrev pub GainsReportPart : Option (List ℕ) → Option (List ℕ) → Option (List ℕ) → Type 0
-GainsReportPart left old new = IfSome left (λ input. (text : List ℕ)
-    × (IsApprovalOf input text ⊎ (IsObjectionTo input text ⊎ IsRefusalOf input text)) × AppendsSome old new text)
+GainsReportPart left old new = GainsSome (λ input text. IsApprovalOf input text ⊎ (IsObjectionTo input text ⊎ IsRefusalOf input text)) left old new
 
 -- the source tells that it held a draw file with a legal table, within the limit
 abbrev pub HoldsLegal : Option (List ℕ) → Type 0

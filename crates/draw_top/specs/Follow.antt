@@ -41,6 +41,10 @@ IsRefusalOf input text = (fault : FileFault) × IsFileFault (head_of input) faul
 abbrev pub Gains : (List ℕ → List ℕ → Type 0) → Option (List ℕ) → Option (List ℕ) → Option (List ℕ) → Type 0
 Gains IsSo left old new = IfSome left (λ input. (text : List ℕ) × IsSo input text × Appends old new text)
 
+-- some first bytes of a text that is so of what the source held
+abbrev pub GainsSome : (List ℕ → List ℕ → Type 0) → Option (List ℕ) → Option (List ℕ) → Option (List ℕ) → Type 0
+GainsSome IsSo left old new = IfSome left (λ input. (text : List ℕ) × IsSo input text × AppendsSome old new text)
+
 -- the answer text of what the source held
 abbrev pub GainsAnswer : Option (List ℕ) → Option (List ℕ) → Option (List ℕ) → Type 0
 GainsAnswer left old new = Gains IsAnswerOf left old new
@@ -51,7 +55,7 @@ GainsRefusal left old new = Gains IsRefusalOf left old new
 
 -- some first bytes of what it was to gain
 abbrev pub GainsPart : Option (List ℕ) → Option (List ℕ) → Option (List ℕ) → Type 0
-GainsPart left old new = IfSome left (λ input. (text : List ℕ) × (IsAnswerOf input text ⊎ IsRefusalOf input text) × AppendsSome old new text)
+GainsPart left old new = GainsSome (λ input text. IsAnswerOf input text ⊎ IsRefusalOf input text) left old new
 
 -- the source held at most as many bytes as are taken
 abbrev pub FitsLimit : Option (List ℕ) → Type 0

@@ -13,7 +13,10 @@ use crate::heads::{INPUT_LIMIT, read_file, refusal_line};
 use crate::status::Status;
 use draw_lines::{first_line, split_input};
 use draw_ports::{PortFault, Sink, Source, put_all, read_all};
-use draw_tables::{Table, TableFault, Verdict, judge, read_table};
+use draw_tables::{
+    Table, TableFault, Verdict, judge, law_legal_where_nothing_broken, law_one_table_of_text,
+    read_table,
+};
 use rule_sets::DrawFile;
 use std::alloc::{AllocError, Global};
 
@@ -185,6 +188,8 @@ pub fn run_check<S: Source, K: Sink>(
         Err(PortFault::TooLong { limit: _ }) => return Status::TooLong,
         Err(_) => return Status::NoMemory,
     };
+    law_one_table_of_text();
+    law_legal_where_nothing_broken();
     match report_of(alloc, &input) {
         Ok(Report::Legal) => match put_all(out, b"legal\n") {
             Ok(()) => Status::Ok,

@@ -1,12 +1,16 @@
 //! The top calls of the programs `draw` and `drawcheck`.
 #![tactic(auto)]
 
+#[cfg(test)]
+mod check_tests;
 mod checking;
 mod faults;
 mod following;
 mod heads;
 mod laws;
 mod run;
+#[cfg(test)]
+mod state_tests;
 mod status;
 #[cfg(test)]
 mod tests;

@@ -13,10 +13,10 @@ use std::test::Fail;
 use std::thread::Threads;
 use team_files::{Kind, read_head};
 
-const ROUND_OF_16: &str =
+pub(crate) const ROUND_OF_16: &str =
     r#"{"kind":"pairing","teams":[{"code":"MCI","pot":1,"tags":["ENG"],"group":"A"},{"code":"LIV","pot":1,"tags":["ENG"],"group":"B"},{"code":"AJX","pot":1,"tags":["NED"],"group":"C"},{"code":"RMA","pot":1,"tags":["ESP"],"group":"D"},{"code":"BAY","pot":1,"tags":["GER"],"group":"E"},{"code":"MUN","pot":1,"tags":["ENG"],"group":"F"},{"code":"LIL","pot":1,"tags":["FRA"],"group":"G"},{"code":"JUV","pot":1,"tags":["ITA"],"group":"H"},{"code":"PSG","pot":2,"tags":["FRA"],"group":"A"},{"code":"ATM","pot":2,"tags":["ESP"],"group":"B"},{"code":"SCP","pot":2,"tags":["POR"],"group":"C"},{"code":"INT","pot":2,"tags":["ITA"],"group":"D"},{"code":"BEN","pot":2,"tags":["POR"],"group":"E"},{"code":"VIL","pot":2,"tags":["ESP"],"group":"F"},{"code":"RBS","pot":2,"tags":["AUT"],"group":"G"},{"code":"CHE","pot":2,"tags":["ENG"],"group":"H"}]}"#;
 
-const TWO_TEAMS: &str =
+pub(crate) const TWO_TEAMS: &str =
     r#"{"kind":"pairing","teams":[{"code":"AAA","pot":1,"tags":["X"],"group":"A"},{"code":"BBB","pot":2,"tags":["Y"],"group":"B"}]}"#;
 
 const OPENING: &str = "draw pairing 16 teams\nnext runner-up: PSG ATM SCP INT BEN VIL RBS CHE\n";
@@ -25,15 +25,15 @@ const USAGE: &str = "usage: draw follow|prove|room|trial N [--workers 1..16]\n";
 
 /// How a run goes wrong: calls of the source and of the sink that fail, and the sink's room.
 #[derive(Drop)]
-struct Outside {
-    most: usize,
-    source_fails: Option<u64>,
-    room: usize,
-    sink_fails: Option<u64>,
+pub(crate) struct Outside {
+    pub(crate) most: usize,
+    pub(crate) source_fails: Option<u64>,
+    pub(crate) room: usize,
+    pub(crate) sink_fails: Option<u64>,
     ghost some: { 0 < most },
 }
 
-fn fine() -> Outside {
+pub(crate) fn fine() -> Outside {
     Outside {
         most: 4096,
         source_fails: None,
@@ -42,7 +42,7 @@ fn fine() -> Outside {
     }
 }
 
-fn listed(alloc: Global, call: Option<u64>) -> Result<Vec<u64>, AllocError> {
+pub(crate) fn listed(alloc: Global, call: Option<u64>) -> Result<Vec<u64>, AllocError> {
     let mut calls = Vec::new(alloc);
     if let Some(call) = call {
         calls.push(call)?;
@@ -71,7 +71,7 @@ fn run<R: Threads + Wait + Sync>(
     Ok((status, text))
 }
 
-fn words(alloc: Global, list: &[&str]) -> Result<Vec<String>, AllocError> {
+pub(crate) fn words(alloc: Global, list: &[&str]) -> Result<Vec<String>, AllocError> {
     let mut words = Vec::new(alloc);
     for word in list {
         words.push(String::from_str(alloc, word)?)?;
@@ -80,7 +80,7 @@ fn words(alloc: Global, list: &[&str]) -> Result<Vec<String>, AllocError> {
 }
 
 /// A head, the separator and command lines.
-fn input(alloc: Global, head: &str, lines: &str) -> Result<String, AllocError> {
+pub(crate) fn input(alloc: Global, head: &str, lines: &str) -> Result<String, AllocError> {
     format!(in alloc; "{head}\n--\n{lines}")
 }
 
@@ -305,6 +305,8 @@ fn a_file_tells_its_kind(rt: HostRuntime) -> Result<(), Fail> {
     assert!(rt; file.kind() == Kind::Pairing);
     assert_eq!(rt; file.groups(), 0);
     assert_eq!(rt; file.pots(), 2);
+    assert!(rt; file.limits().is_empty());
+    assert!(rt; file.places().is_empty());
     Ok(())
 }
 
@@ -318,4 +320,5 @@ fn the_laws_return(rt: HostRuntime) {
     law_answer_exists();
     law_answer_or_refusal();
     assert_eq!(rt; Status::TooLong.number(), 6);
+    assert_eq!(rt; Status::NotValid.number(), 7);
 }
