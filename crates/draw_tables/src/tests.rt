@@ -1,4 +1,4 @@
-use crate::{Verdict, judge, read_table, table_text};
+use crate::{TableFault, Verdict, judge, read_table, table_text};
 use rule_sets::rules_from;
 use std::alloc::Global;
 use std::process::Abort;
@@ -125,8 +125,12 @@ fn told(
 ) -> Result<Option<Verdict>, Fail> {
     let head = format!(in alloc; "{teams},\"pairs\":[{pairs}]}}")?;
     let file = rules_from(alloc, read_head(alloc, head.as_bytes())?)?;
-    let Ok(table) = read_table(alloc, &file, text.as_bytes()) else {
-        return Ok(None);
+    let table = match read_table(alloc, &file, text.as_bytes()) {
+        Ok(table) => table,
+        Err(fault) => {
+            assert_eq!(rt; fault, TableFault::NotTable, "{text}");
+            return Ok(None);
+        }
     };
     let copy = table.clone_in(alloc)?;
     let written = table_text(alloc, &file, &copy)?;
