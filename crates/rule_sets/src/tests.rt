@@ -1,0 +1,65 @@
+use crate::{DrawFile, Pair, rules_from};
+use std::alloc::Global;
+use std::process::Abort;
+use std::test::Fail;
+use team_files::{FileFault, Kind, TeamId, read_head};
+
+/// A head of two teams with forbidden pairs.
+fn file_with(alloc: Global, pairs: &str) -> Result<DrawFile, FileFault> {
+    let head = format!(in alloc;
+        r#"{{"kind":"pairing","pairs":[{pairs}],"teams":[{{"code":"AAA","pot":1,"tags":["X","Y"],"group":"A"}},{{"code":"BBB","name":"Bilbao","pot":2,"tags":["Z"],"group":"B"}}]}}"#
+    )?;
+    let head = read_head(alloc, head.as_bytes())?;
+    rules_from(alloc, head)
+}
+
+/// Lists of forbidden pairs, each behind the place of the first one that is none.
+const PAIRS: &str = r#"
+none: ["AAA","BBB"]
+none: ["BBB","AAA"],["AAA","BBB"],["AAA","BBB"]
+none: ["\u0041AA","BBB"]
+0: ["AAA","CCC"]
+0: ["CCC","AAA"]
+0: ["AAA","AAA"]
+0: ["aaa","BBB"]
+0: ["","BBB"]
+0: ["AAA","BBB "]
+1: ["AAA","BBB"],["BBB","BBB"],["AAA","CCC"]
+2: ["AAA","BBB"],["BBB","AAA"],["CCC","DDD"]
+"#;
+
+#[test]
+fn pairs_are_looked_up(rt: HostRuntime) -> Result<(), Fail> {
+    let alloc = rt.alloc();
+    for line in PAIRS.lines() {
+        if let Some((wanted, pairs)) = line.split_once(": ") {
+            let said = match file_with(alloc, pairs) {
+                Ok(_) => format!(in alloc; "none")?,
+                Err(FileFault::BadPair { place }) => format!(in alloc; "{place}")?,
+                Err(_) => format!(in alloc; "another fault")?,
+            };
+            assert!(rt; said.as_str() == wanted, "{pairs}: {said}");
+        }
+    }
+    Ok(())
+}
+
+#[test]
+fn a_file_is_copied(rt: HostRuntime) -> Result<(), Fail> {
+    let alloc = rt.alloc();
+    let file = file_with(alloc, r#"["BBB","AAA"]"#)?.clone_in(alloc)?;
+    assert_eq!(rt; file.kind(), Kind::Pairing);
+    assert_eq!(rt; (file.groups(), file.pots()), (0, 2));
+    assert!(rt; file.limits().is_empty() && file.places().is_empty());
+    let pair = Pair {
+        first: TeamId(1),
+        second: TeamId(0),
+    };
+    assert!(rt; file.pairs() == [pair]);
+    assert_eq!(rt; file.teams().number(), 2);
+    let second = file.teams().get(TeamId(1));
+    assert!(rt; second.name.bytes() == "Bilbao".as_bytes());
+    assert_eq!(rt; file.teams().find(second.code), Some(TeamId(1)));
+    assert!(rt; file.teams().get(TeamId(0)).tags.as_slice()[1].bytes() == "Y".as_bytes());
+    Ok(())
+}
