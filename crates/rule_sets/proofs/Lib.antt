@@ -1,1 +1,2 @@
 pub mod FileForms
+pub mod PairLaws

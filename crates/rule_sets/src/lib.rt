@@ -6,9 +6,11 @@ mod limit;
 mod pair;
 mod place;
 mod rules;
+#[cfg(test)]
+mod tests;
 
 pub use draw_file::DrawFile;
 pub use limit::Limit;
 pub use pair::Pair;
 pub use place::Place;
-pub use rules::{law_files_have_form, rules_from};
+pub use rules::{law_files_have_form, law_first_bad_pair, rules_from};

@@ -1,6 +1,7 @@
 ghost use Rattle.std.specs.Prelude.{◌≡◌, ◌≢◌, ◌≤◌, length, Ok, Err, IfOk, IfErr};
 ghost use Rattle.team_files.specs.Answers.{Gives};
 ghost use Rattle.rule_sets.specs.Files.{file_of, team_named, pair_of, pairs_from};
+ghost use Rattle.rule_sets.specs.BadPairs.{TellsFirstBadPair};
 ghost use Rattle.rule_sets.specs.Forms.{FilesHaveForm};
 
 use crate::draw_file::DrawFile;
@@ -59,4 +60,10 @@ fn pair_of(teams: &Teams, place: u32, pair: &HeadPair) -> Result<Pair, FileFault
 /// size, and at most 64 forbidden pairs of two different teams. Does nothing.
 pub fn law_files_have_form()
     ensures { FilesHaveForm }
+{}
+
+/// `BadPair` tells the first forbidden pair that names no two teams: a text is no team's code, or
+/// both are one team's. Does nothing.
+pub fn law_first_bad_pair()
+    ensures { TellsFirstBadPair }
 {}

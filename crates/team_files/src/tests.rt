@@ -1,4 +1,4 @@
-use crate::{Code, FileFault, Kind, TeamId, read_head};
+use crate::{Code, FileFault, Head, Kind, Team, TeamId, Teams, read_head};
 use std::alloc::{AllocError, Global};
 use std::process::Abort;
 use std::test::Fail;
@@ -206,25 +206,33 @@ fn heads_are_refused(rt: HostRuntime) -> Result<(), Fail> {
     expect_table(&rt, alloc, PAIRS, (start.as_str(), "}"))
 }
 
+/// A table of parts of a second team, which stand behind a text of its other members.
+fn expect_parts(
+    rt: &impl Abort,
+    alloc: Global,
+    table: &str,
+    members: (&str, &str),
+) -> Result<(), Fail> {
+    let start = format!(in alloc;
+        r#"{{"kind":"pairing","teams":[{FIRST},{{"pot":2,{}"#,
+        members.0
+    )?;
+    expect_table(rt, alloc, table, (start.as_str(), members.1))
+}
+
 #[test]
 fn codes_tags_and_letters_have_alphabets(rt: HostRuntime) -> Result<(), Fail> {
-    let alloc = rt.alloc();
-    let start = format!(in alloc; r#"{{"kind":"pairing","teams":[{FIRST},{{"pot":2,"#)?;
-    let code = format!(in alloc;
-        "{}\"tags\":[\"Y\"],\"group\":\"B\",\"code\":\"",
-        start.as_str()
-    )?;
-    expect_table(&rt, alloc, CODES, (code.as_str(), "\"}]}"))?;
-    let tags = format!(in alloc;
-        "{}\"code\":\"BBB\",\"group\":\"B\",\"tags\":[",
-        start.as_str()
-    )?;
-    expect_table(&rt, alloc, TAGS, (tags.as_str(), "]}]}"))?;
-    let letter = format!(in alloc;
-        "{}\"code\":\"BBB\",\"tags\":[\"Y\"],\"group\":\"",
-        start.as_str()
-    )?;
-    expect_table(&rt, alloc, LETTERS, (letter.as_str(), "\"}]}"))
+    for (table, members) in [
+        (CODES, (r#""tags":["Y"],"group":"B","code":""#, r#""}]}"#)),
+        (TAGS, (r#""code":"BBB","group":"B","tags":["#, r#"]}]}"#)),
+        (
+            LETTERS,
+            (r#""code":"BBB","tags":["Y"],"group":""#, r#""}]}"#),
+        ),
+    ] {
+        expect_parts(&rt, rt.alloc(), table, members)?;
+    }
+    Ok(())
 }
 
 /// A head of teams that are given by code and pot.
@@ -308,28 +316,65 @@ fn lists_have_limits(rt: HostRuntime) -> Result<(), Fail> {
     Ok(())
 }
 
-#[test]
-fn limits_stand_between_forms_and_codes(rt: HostRuntime) -> Result<(), Fail> {
-    let alloc = rt.alloc();
+/// The first fault of a head with so many teams without a code, and with so many pairs of a form.
+fn told_of_lists(
+    alloc: Global,
+    teams: usize,
+    pairs: usize,
+    pair: &str,
+) -> Result<String, AllocError> {
     let teams = repeated(
         alloc,
         r#"{"code":"bbb","pot":1,"tags":["X"],"group":"A"}"#,
-        41,
+        teams,
     )?;
-    let many = repeated(alloc, "[\"\",\"\"]", 65)?;
-    for (pairs, fault) in [
-        (many.as_str(), "TooMany Teams 41"),
-        ("[]", "TooMany Teams 41"),
-        ("[[]]", "FieldWrong Pairs"),
-    ] {
-        let head = format!(in alloc; r#"{{"pairs":{pairs},"kind":"pairing","teams":{teams}}}"#)?;
-        assert!(rt; told(alloc, head.as_str())?.as_str() == fault);
+    let pairs = repeated(alloc, pair, pairs)?;
+    let head = format!(in alloc; r#"{{"pairs":{pairs},"kind":"pairing","teams":{teams}}}"#)?;
+    told(alloc, head.as_str())
+}
+
+/// Numbers of teams and of pairs, and a pair, each behind the head's first fault.
+const NUMBERS: [(&str, usize, usize, &str); 4] = [
+    ("FieldWrong Pairs", 41, 65, "[]"),
+    ("TooMany Teams 41", 41, 65, r#"["",""]"#),
+    ("TooMany Pairs 65", 40, 65, r#"["",""]"#),
+    ("BadCode 0", 40, 64, r#"["",""]"#),
+];
+
+#[test]
+fn limits_stand_between_forms_and_codes(rt: HostRuntime) -> Result<(), Fail> {
+    for (fault, teams, pairs, pair) in &NUMBERS {
+        let said = told_of_lists(rt.alloc(), *teams, *pairs, pair)?;
+        assert!(rt; said.as_str() == *fault);
     }
-    let head = format!(in alloc;
-        r#"{{"pairs":{many},"kind":"pairing","teams":[{{"code":"bbb","pot":1,"tags":["X"],"group":"A"}}]}}"#
-    )?;
-    assert!(rt; told(alloc, head.as_str())?.as_str() == "TooMany Pairs 65");
     Ok(())
+}
+
+/// A team whose name is its code, with one tag.
+fn expect_team(rt: &impl Abort, team: &Team, code: &str, pot: u32, tag: &str, letter: u8) {
+    assert!(rt; team.code.text() == code && team.name.bytes() == code.as_bytes());
+    assert_eq!(rt; team.pot, pot);
+    assert_eq!(rt; team.tags.as_slice().len(), 1);
+    assert!(rt; team.tags.as_slice()[0].bytes() == tag.as_bytes());
+    assert_eq!(rt; team.group_letter, Some(letter));
+}
+
+/// The head of `FIRST` and `SECOND`.
+fn expect_head(rt: &impl Abort, head: &Head) {
+    assert_eq!(rt; head.kind(), Kind::Pairing);
+    assert_eq!(rt; head.groups(), 0);
+    assert_eq!(rt; head.pots(), 2);
+    assert!(rt; head.limits().is_empty());
+    assert!(rt; head.pairs().is_empty());
+    assert!(rt; head.places().is_empty());
+    assert_eq!(rt; head.teams().number(), 2);
+    expect_team(rt, head.teams().get(TeamId(0)), "AAA", 1, "X", b'A');
+    expect_team(rt, head.teams().get(TeamId(1)), "BBB", 2, "Y", b'B');
+}
+
+fn expect_found(rt: &impl Abort, teams: &Teams, code: &str, wanted: Option<TeamId>) {
+    let found = Code::read(code.as_bytes()).map(|code| teams.find(code));
+    assert!(rt; found == Some(wanted), "{code}");
 }
 
 #[test]
@@ -337,23 +382,10 @@ fn a_head_is_read(rt: HostRuntime) -> Result<(), Fail> {
     let alloc = rt.alloc();
     let text = format!(in alloc; r#"{{"kind":"pairing","teams":[{FIRST},{SECOND}]}}"#)?;
     let head = read_head(alloc, text.as_bytes())?;
-    assert_eq!(rt; head.kind(), Kind::Pairing);
-    assert_eq!(rt; head.groups(), 0);
-    assert_eq!(rt; head.pots(), 2);
-    assert!(rt; head.pairs().is_empty());
-    assert_eq!(rt; head.teams().number(), 2);
-    for (place, code, pot, tag, letter) in [(0, "AAA", 1, "X", b'A'), (1, "BBB", 2, "Y", b'B')] {
-        let team = head.teams().get(TeamId(place));
-        assert!(rt; team.code.text() == code);
-        assert!(rt; team.name.bytes() == code.as_bytes());
-        assert_eq!(rt; team.pot, pot);
-        assert_eq!(rt; team.tags.as_slice().len(), 1);
-        assert!(rt; team.tags.as_slice()[0].bytes() == tag.as_bytes());
-        assert_eq!(rt; team.group_letter, Some(letter));
-        assert_eq!(rt; head.teams().find(team.code), Some(TeamId(place)));
-    }
-    let other = Code::read("CCC".as_bytes()).ok_or("no code")?;
-    assert_eq!(rt; head.teams().find(other), None);
+    expect_head(&rt, &head);
+    expect_found(&rt, head.teams(), "AAA", Some(TeamId(0)));
+    expect_found(&rt, head.teams(), "BBB", Some(TeamId(1)));
+    expect_found(&rt, head.teams(), "CCC", None);
     Ok(())
 }
 
