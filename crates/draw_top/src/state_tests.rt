@@ -26,7 +26,7 @@ fn has_candidate(
 ) -> Result<bool, AllocError> {
     let candidates = state.candidates(alloc)?;
     Ok(
-        candidates.as_slice() == [Choice::Team(team)]
+        candidates.as_slice() == [Choice::Team(team)].as_slice()
             && state.move_of(Choice::Team(team)).is_some()
             && state.move_of(Choice::Team(other)).is_none(),
     )
@@ -68,7 +68,7 @@ fn a_copy_of_a_state_is_its_own(rt: HostRuntime) -> Result<(), Fail> {
     let mut copy = state.clone_in(alloc)?;
     assert!(rt; copy.undo() == Some(Move::Drawn(RUNNER)));
     assert!(rt; copy.moves().is_empty());
-    assert!(rt; state.moves() == [Move::Drawn(RUNNER)]);
+    assert!(rt; state.moves() == [Move::Drawn(RUNNER)].as_slice());
     Ok(())
 }
 
