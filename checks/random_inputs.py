@@ -4,16 +4,12 @@ Heads good and bad, balls that follow the offer and balls that do not, nonsense 
 returns, zero bytes, long lines and runs past the limit of commands.
 """
 
-import argparse
 import json
-import pathlib
-import random
-import subprocess
 import sys
 
+import comparing
 import reference
 
-PROGRAM = pathlib.Path(__file__).resolve().parent.parent / "crates/draw/out/draw"
 LETTERS = "ABCDEFGHIJ"
 
 
@@ -119,27 +115,5 @@ def one_input(rng, most):
     return text + (end if end.endswith(b"\n") else b"\n") + rng.choice((b"--\n", b"--\r\n")) + lines(rng, text, count)
 
 
-def main():
-    parser = argparse.ArgumentParser(description=__doc__)
-    parser.add_argument("--inputs", type=int, default=5000)
-    parser.add_argument("--seed", type=int, default=1)
-    parser.add_argument("--most", type=int, default=6, help="the most pairs of a file; ten at the most")
-    words = parser.parse_args()
-    rng = random.Random(words.seed)
-    statuses = {}
-    for number in range(words.inputs):
-        data = one_input(rng, words.most)
-        status, text = reference.follow(data)
-        ended = subprocess.run([PROGRAM, "follow"], input=data, capture_output=True, check=False)
-        if (ended.returncode, ended.stdout) != (status, text):
-            sys.stdout.buffer.write(b"input:\n" + data + b"\nwanted %d:\n" % status + text)
-            sys.stdout.buffer.write(b"got %d:\n" % ended.returncode + ended.stdout + ended.stderr + b"\n")
-            print(f"input {number} of seed {words.seed} differs")
-            return 1
-        statuses[status] = statuses.get(status, 0) + 1
-    print(f"{words.inputs} random inputs answered alike, by status: {dict(sorted(statuses.items()))}")
-    return 0
-
-
 if __name__ == "__main__":
-    sys.exit(main())
+    sys.exit(comparing.compare(__doc__, "draw", "follow", reference.follow, one_input, lambda status, _: status))

@@ -4,17 +4,12 @@ Legal tables where the file has some, and damaged ones: exchanged, repeated and 
 spaces, letters, line ends, no line and several.
 """
 
-import argparse
 import json
-import pathlib
-import random
-import subprocess
 import sys
 
+import comparing
 import random_inputs
 import reference
-
-PROGRAM = pathlib.Path(__file__).resolve().parent.parent / "crates/drawcheck/out/drawcheck"
 
 
 def damaged(rng, file, table):
@@ -66,28 +61,9 @@ def one_input(rng, most):
     return text + b"\n--\n" + line + end
 
 
-def main():
-    parser = argparse.ArgumentParser(description=__doc__)
-    parser.add_argument("--inputs", type=int, default=5000)
-    parser.add_argument("--seed", type=int, default=1)
-    parser.add_argument("--most", type=int, default=6, help="the most pairs of a file; ten at the most")
-    words = parser.parse_args()
-    rng = random.Random(words.seed)
-    told = {}
-    for number in range(words.inputs):
-        data = one_input(rng, words.most)
-        status, text = reference.judge(data)
-        ended = subprocess.run([PROGRAM, "judge"], input=data, capture_output=True, check=False)
-        if (ended.returncode, ended.stdout) != (status, text):
-            sys.stdout.buffer.write(b"input:\n" + data + b"\nwanted %d:\n" % status + text)
-            sys.stdout.buffer.write(b"got %d:\n" % ended.returncode + ended.stdout + ended.stderr + b"\n")
-            print(f"input {number} of seed {words.seed} differs")
-            return 1
-        kind = " ".join(text.decode().split()[:2])
-        told[kind] = told.get(kind, 0) + 1
-    print(f"{words.inputs} random tables judged alike: {dict(sorted(told.items()))}")
-    return 0
+def first_words(_, text):
+    return " ".join(text.decode().split()[:2])
 
 
 if __name__ == "__main__":
-    sys.exit(main())
+    sys.exit(comparing.compare(__doc__, "drawcheck", "judge", reference.judge, one_input, first_words))

@@ -305,8 +305,8 @@ def split_input(data):
     return data, []
 
 
-def follow(data):
-    """The status and the output of `draw follow` on this input."""
+def answered(data, answer):
+    """The status and the output of a program that answers a draw file and lines by `answer`."""
     if len(data) > LIMIT:
         return 6, b""
     head, lines = split_input(data)
@@ -317,11 +317,20 @@ def follow(data):
         file = File(value)
     except Refused as refused:
         return 2, f"file refused {refused}\n".encode()
+    return answer(file, lines)
+
+
+def answer_balls(file, lines):
     state = State(file)
     text = [f"draw pairing {len(file.teams)} teams", state.next_line()]
-    for answered, line in enumerate(lines):
-        text += reply(state, answered, line)
+    for count, line in enumerate(lines):
+        text += reply(state, count, line)
     return 0, ("\n".join(text) + "\n").encode()
+
+
+def follow(data):
+    """The status and the output of `draw follow` on this input."""
+    return answered(data, answer_balls)
 
 
 def verdict(file, table):
@@ -343,18 +352,7 @@ def verdict(file, table):
     return "legal"
 
 
-def judge(data):
-    """The status and the output of `drawcheck judge` on this input."""
-    if len(data) > LIMIT:
-        return 6, b""
-    head, lines = split_input(data)
-    try:
-        value = read_json(head)
-        if not isinstance(value, dict):
-            raise Refused("2 NotObject")
-        file = File(value)
-    except Refused as refused:
-        return 2, f"file refused {refused}\n".encode()
+def judge_lines(file, lines):
     if len(lines) != 1:
         return 7, b"not a table\n"
     table = lines[0].decode("latin-1").split(" ")
@@ -362,3 +360,8 @@ def judge(data):
         return 7, b"not a table\n"
     told = verdict(file, table)
     return 0 if told == "legal" else 7, f"{told}\n".encode()
+
+
+def judge(data):
+    """The status and the output of `drawcheck judge` on this input."""
+    return answered(data, judge_lines)
