@@ -55,7 +55,9 @@ def one_input(rng, most):
     else:
         table = rng.sample(file.winners, len(file.winners))
     line = damaged(rng, file, list(table)) if rng.random() < 0.7 else " ".join(table).encode()
-    end = rng.choice((b"\n", b"\n", b"\r\n", b"", b"\r", b"\r\r\n", b"\n\n", b"\n" + line + b"\n", b"\n--\n"))
+    end = b"\n"
+    if rng.random() < 0.2:
+        end = rng.choice((b"\r\n", b"", b"\r", b"\r\r\n", b"\n\n", b"\n" + line + b"\n", b"\n--\n"))
     if rng.random() < 0.03:
         return text + rng.choice((b"", b"\n", b"\n--", b"\n--\n"))
     return text + b"\n--\n" + line + end
