@@ -16,8 +16,8 @@ abbrev pub is_on : List ℕ → ℕ → Bool
 is_on trail a = list_any (λ k. k == a) trail
 
 -- Each atom with a value is on the trail, and the trail has room for the others.
-pub record IsBoard (values : Partial) (trail : List ℕ) (room : ℕ) : Type 0 where
+pub record IsBoard (values : Partial) (trail : List ℕ) (capacity : ℕ) : Type 0 where
   pub tracked : (a : ℕ) (b : Bool) → known values a ≡ Some b → is_on trail a ≡ true
   pub within : AllByRecursion (λ a. a < length values) trail
   pub number : length trail + unset values ≤ length values
-  pub room : length values ≤ room
+  pub room : length values ≤ capacity

@@ -1,5 +1,5 @@
 -- The steps on which a step rests.
-use Rattle.std.specs.Prelude.{◌≡◌, ◌↔◌, ℕ, Bool, true, false, List, [], ◌∷◌, map, take, count_by, slice_get, slice_index_or, Some, ◌==◌}
+use Rattle.std.specs.Prelude.{◌≡◌, ◌↔◌, ℕ, Bool, true, false, List, [], ◌∷◌, map, take, count_by, slice_get, slice_index_or, Some, ◌==◌, ◌+◌, length}
 use Rattle.std.specs.List.{list_any}
 use Rattle.count_core.specs.declared.hint.Hint.{Hint}
 use Rattle.count_core.specs.declared.hint.Hint.TheVariants.{Rule, Step as Earlier}
@@ -44,7 +44,9 @@ sublist set (true ∷ marks) (s ∷ steps) = placed set s ∷ sublist set marks 
 sublist set (false ∷ marks) (s ∷ steps) = sublist set marks steps
 
 -- The cone of a step: exactly the steps that it reaches, in their order, renumbered by their places.
+-- None of them has a number above its own.
 pub record IsCone (steps : List Step) (from : ℕ) (cone : List Step) : Type 0 where
   pub reached : List Bool
+  pub up_to : length reached ≡ from + 1
   pub exactly : (n : ℕ) → (is_in reached n ≡ true) ↔ Reaches steps from n
   pub in_order : cone ≡ sublist reached reached steps
