@@ -1,14 +1,17 @@
 -- Values set and taken away again, and what a rule says by numbers.
-use Rattle.std.proofs.Common.{◌≡◌, ◌≢◌, ℕ, zero, suc, ◌+◌, ◌-◌, ◌≤◌, ◌<◌, Bool, true, false, cond, not, List, [], ◌∷◌, ◌++◌, length, drop, drop-cons, get_or, refl, sym, ap, ◌∙◌, arith, Option, Some, None, slice_get, ◌⊎◌, inl, inr}
+use Rattle.std.proofs.Common.{◌≡◌, ◌≢◌, ℕ, zero, suc, ◌+◌, ◌-◌, ◌≤◌, ◌<◌, Bool, true, false, cond, not, List, [], ◌∷◌, ◌++◌, length, take, drop, drop-cons, get_or, refl, sym, ap, ◌∙◌, arith, Option, Some, None, slice_get, ◌⊎◌, inl, inr}
 use Rattle.std.specs.Prelude.{slice_set, ◌||◌, ◌&&◌, ◌==◌, nat_lt, replicate}
 use Rattle.std.specs.List.{list_any, AllByRecursion as Each}
 use Rattle.std.proofs.lemmas.Bool.Decides.{nat_tests, Decides-eqb}
-use Rattle.std.proofs.lemmas.List.{length-set, length-replicate, length-append, drop_all}
+use Rattle.std.proofs.lemmas.List.{length-set, length-replicate, length-append, drop_all, take_all, append-nil}
 use Rattle.std.proofs.lemmas.Option.{slice_get_within}
 use Rattle.count_core.specs.declared.lit.Lit.{Lit}
-use Rattle.count_core.specs.Partials.{Partial, known, trues, falses, unsets, conflicts, forces, forced, settle_all}
+use Rattle.count_core.specs.Problems.{repeats, are_within}
+use Rattle.count_core.specs.Assignments.{signed}
+use Rattle.count_core.proofs.Denials.{meets_set, meets_set_repeats}
+use Rattle.count_core.specs.Partials.{Partial, known, is_unset, settle, trues, falses, unsets, conflicts, forces, forced, settle_all}
 use Rattle.count_core.proofs.Lists.{each_map, each_push}
-use Rattle.count_core.proofs.Forcing.{known_same, known_other, known_none, known_set, numbers_add, conflicts_is, forces_is, forced_is}
+use Rattle.count_core.proofs.Forcing.{known_same, known_other, known_none, known_set, numbers_add, settle_set, settle_unset, unset_none, none_unset, conflicts_is, forces_is, forced_is}
 use Rattle.refutations.specs.Boards.{unset, is_on, IsBoard}
 
 known_away : (p : Partial) (a : ℕ) (b : Bool) → known (slice_set p a None) a ≡ Some b → ⊥
@@ -160,3 +163,55 @@ module _ (p : Partial) (ls : List Lit) (lo hi : ℕ) (t f : ℕ) (is_t : t ≡ t
       let x : (trues p ls == hi) ≡ false = grind (arith, nat_tests) in
       let y : (length ls - falses p ls == lo) ≡ true = grind (arith, nat_tests) in
       rw (forced_is, x, y)
+
+-- ---- a literal whose atom is not there without a value
+
+set_past : (p : Partial) (a : ℕ) (o : Option Bool) → slice_get p a ≡ None → slice_set p a o ≡ p
+set_past [] a o e = refl
+set_past (x ∷ p) zero o e = cc
+set_past (x ∷ p) (suc a) o e = ap (λ q. x ∷ q) (set_past p a o e)
+
+known_value : (p : Partial) (a : ℕ) (c : Bool) → slice_get p a ≡ Some (Some c) → known p a ≡ Some c
+known_value p a c e = rw e
+
+value_set : (p : Partial) (l : Lit) (c : Bool) (u : Bool) → is_unset p l ≡ u → known p l.atom.0 ≡ Some c → is_unset p l ≡ false
+value_set p l c true is k = (let n = unset_none l.positive (known p l.atom.0) is in cc)
+value_set p l c false is k = is
+
+pub settle_shut : (p : Partial) (l : Lit) (b : Bool) → (slice_get p l.atom.0 ≡ Some None → ⊥) → settle b l p ≡ p
+settle_shut p l b shut = go (slice_get p l.atom.0) refl shut
+  where
+    by_test : (u : Bool) → slice_get p l.atom.0 ≡ None → cond u (slice_set p l.atom.0 (Some (signed l.positive b))) p ≡ p
+    by_test true e = set_past p l.atom.0 (Some (signed l.positive b)) e
+    by_test false e = refl
+
+    go : (o : Option (Option Bool)) → slice_get p l.atom.0 ≡ o → (o ≡ Some None → ⊥) → settle b l p ≡ p
+    go None e shut = by_test (is_unset p l) e
+    go (Some None) e shut = absurd (shut refl)
+    go (Some (Some c)) e shut = settle_set b l p (value_set p l c (is_unset p l) refl (known_value p l.atom.0 c e))
+
+pub unset_open : (p : Partial) (l : Lit) (b : Bool) → slice_get p l.atom.0 ≡ Some None → settle b l p ≡ slice_set p l.atom.0 (Some (signed l.positive b))
+unset_open p l b e =
+    let none : known p l.atom.0 ≡ None = rw e in
+    settle_unset b l p (none_unset l.positive (known p l.atom.0) none)
+
+-- ---- a board after its values were taken away
+
+pub board_after : (xs new : Partial) (trail : List ℕ) (n more : ℕ) → n ≡ length xs → new ≡ replicate (length xs) None → trail ≡ [] → length xs ≤ more → IsBoard (take n (new ++ drop (length new) xs)) trail more
+board_after xs new trail n more is cleared empty le =
+    let nothing : Option Bool = None in
+    let len : length new ≡ length xs = ap length cleared ∙ length-replicate (length xs) nothing in
+    let rest : drop (length new) xs ≡ [] = drop_all (length new) xs (omega arith) in
+    let whole : take n (new ++ drop (length new) xs) ≡ replicate (length xs) None = rw (rest, append-nil, take_all n new (omega arith)) cleared in
+    rw (whole, empty) (board_clear (length xs) more le)
+
+-- ---- a clause denied literal by literal
+
+pub deny_met : (p : Partial) (ls : List Lit) (i : ℕ) (d : Lit) → i < length ls → not (is_unset p (get_or ls i d)) ≡ true → meets_set false p (drop i ls) ≡ true
+deny_met p ls i d lt e = rw (drop-cons ls i d, e)
+
+pub deny_none : (p : Partial) (ls : List Lit) (i : ℕ) → length ls ≤ i → meets_set false p (drop i ls) ≡ false
+deny_none p ls i past = rw (drop_all i ls past)
+
+pub deny_repeats : (p : Partial) (n : ℕ) (ls : List Lit) → p ≡ replicate n None → are_within n ls ≡ true → meets_set false p ls ≡ repeats ls
+deny_repeats p n ls e h = rw e (meets_set_repeats false n ls h)

@@ -1,5 +1,8 @@
-ghost use Rattle.std.specs.Prelude.{◌≡◌, [], length, replicate, IfOk, None};
-ghost use Rattle.count_core.specs.Partials.{settle};
+ghost use Rattle.std.specs.Prelude.{◌≡◌, ◌<◌, ℕ, Bool, true, false, [], length, replicate, slice_get, IfOk, Some, None};
+ghost use Rattle.std.specs.List.{AllByRecursion};
+ghost use Rattle.count_core.specs.Assignments.{signed};
+ghost use Rattle.count_core.specs.Partials.{known, settle};
+ghost use Rattle.refutations.specs.Boards.{is_on};
 
 use count_core::Lit;
 use std::alloc::{AllocError, Global};
@@ -55,10 +58,9 @@ impl Board {
     pub(crate) fn settle(&mut self, lit: Lit, truth: bool)
         ensures { self.new ≡ settle truth lit self.old }
     {
-        let place = lit.atom.0 as usize;
-        if place < self.values.len() && self.values[place].is_none() {
+        if is_open(&self.values, lit) {
             self.trail.push(lit.atom.0).unwrap();
-            self.values[place] = Some(if lit.positive { truth } else { !truth });
+            self.values[lit.atom.0 as usize] = Some(signed(lit.positive, truth));
         }
     }
 
@@ -71,10 +73,21 @@ impl Board {
     }
 }
 
-ghost use Rattle.std.specs.Prelude.{ℕ, ◌<◌, Bool, true, Some};
-ghost use Rattle.std.specs.List.{AllByRecursion};
-ghost use Rattle.count_core.specs.Partials.{known};
-ghost use Rattle.refutations.specs.Boards.{is_on};
+/// Whether the literal's atom is one of these and has no value.
+fn is_open(values: &[Option<bool>], lit: Lit) -> bool
+    ensures open { result ≡ true → slice_get values.now lit.atom.0 ≡ Some None }
+    ensures shut { result ≡ false → (b : Bool) → settle b lit values.now ≡ values.now }
+{
+    let place = lit.atom.0 as usize;
+    place < values.len() && values[place].is_none()
+}
+
+/// The atom's value where a literal of this sign is to be true, or false.
+fn signed(positive: bool, truth: bool) -> bool
+    ensures { result ≡ signed positive truth }
+{
+    if positive { truth } else { !truth }
+}
 
 /// Takes the values of these atoms away, which are all that have one.
 fn take_away(values: &mut [Option<bool>], trail: &[u32])

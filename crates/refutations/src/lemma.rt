@@ -58,8 +58,7 @@ impl Lemma {
         ensures clause { result.now ≡ spec.last_clause self.now.steps }
         ensures follows { Follows self.now.problem result.now }
     {
-        let steps = self.steps.as_slice();
-        steps[steps.len() - 1].clause.as_slice()
+        last_clause(self.steps.as_slice())
     }
 
     /// An equal lemma, or want of memory.
@@ -70,4 +69,12 @@ impl Lemma {
         let problem = Arc::try_clone(&self.problem)?;
         Ok(Lemma { problem, steps })
     }
+}
+
+/// The clause of the last of the steps, of which there is one.
+fn last_clause(steps: &[Step]) -> &[Lit]
+    requires { 0 < length steps.now }
+    ensures { result.now ≡ spec.last_clause steps.now }
+{
+    steps[steps.len() - 1].clause.as_slice()
 }

@@ -1,4 +1,4 @@
-ghost use Rattle.std.specs.Prelude.{◌≡◌, ◌+◌, ◌^◌, ◌<◌, ◌++◌, [], ◌∷◌, ℕ, length, map, take, Some, IfOk, IfErr, OnOk, OnErr, IsErrOf};
+ghost use Rattle.std.specs.Prelude.{◌≡◌, ◌+◌, ◌^◌, ◌<◌, ◌++◌, [], ◌∷◌, ℕ, length, map, take, replicate, Some, None, IfOk, IfErr, OnOk, OnErr, IsErrOf};
 ghost use Rattle.std.specs.Arc.{arc_value};
 ghost use Rattle.count_core.specs.Steps.{IsAccepted, AreAccepted, NegatesOnly, failing_hint as hint_that_fails};
 ghost use Rattle.refutations.specs.Derivations as spec;
@@ -12,7 +12,9 @@ use crate::lemma::Lemma;
 use crate::log_fault::LogFault;
 use crate::propagation::failing_hint;
 use crate::shift::shifted_all;
-use count_core::{Hint, Hints, Lit, Lits, NoMemory, Question, SharedProblem, Step, Steps};
+use count_core::{
+    Hint, Hints, Lit, Lits, NoMemory, Problem, Question, SharedProblem, Step, Steps,
+};
 use std::alloc::{AllocError, Global};
 use std::marker::Model;
 use std::sync::Arc;
@@ -78,35 +80,23 @@ impl ProofLog {
         ensures refused { (n : ℕ) → IsErrOf result (LogFault.NotAccepted n) → hint_that_fails self.old.problem self.old.steps (spec.step_of clause.now hints.now) ≡ Some n }
         ensures kept { OnErr result (self.new ≡ self.old) }
     {
-        let atoms = self.problem.atoms() as usize;
-        if self.board.values().len() != atoms {
-            let Ok(board) = Board::unset(alloc, atoms) else {
-                return Err(LogFault::NoMemory);
-            };
-            self.board = board;
-        }
-        let fault = failing_hint(
+        let Ok(fault) = tested(
+            alloc,
             &mut self.board,
             &self.problem,
             self.steps.as_slice(),
             clause,
             hints,
-        );
-        self.board.clear();
-        if let Some(hint) = fault {
-            return Err(LogFault::NotAccepted { hint: hint as u32 });
-        }
-        let number = self.steps.len();
-        if number >= u32::MAX as usize {
-            return Err(LogFault::NoMemory);
-        }
-        let Ok(step) = copied(alloc, clause, hints) else {
+        ) else {
             return Err(LogFault::NoMemory);
         };
-        if self.steps.push(step).is_err() {
-            return Err(LogFault::NoMemory);
+        if let Some(hint) = fault {
+            return Err(LogFault::NotAccepted { hint });
         }
-        Ok(number as u32)
+        match pushed(alloc, &mut self.steps, clause, hints) {
+            Ok(number) => Ok(number),
+            Err(_) => Err(LogFault::NoMemory),
+        }
     }
 
     /// The lemma whose clause is the step's: the steps up to and with it. The step is one of the
@@ -165,6 +155,64 @@ impl ProofLog {
     {
         cone_of(alloc, self.steps.as_slice(), step as usize)
     }
+}
+
+/// The failing hint of a step after the earlier ones, or none where it is accepted. Makes the board
+/// where it was not made yet; no atom has a value before and afterwards.
+fn tested(
+    alloc: Global,
+    board: &mut Board,
+    problem: &Problem,
+    earlier: &[Step],
+    clause: &[Lit],
+    hints: &[Hint],
+) -> Result<Option<u32>, AllocError>
+    requires few { length hints.now < 2 ^ 32 }
+    requires clear { board.old ≡ replicate (length board.old) None }
+    ensures answer { IfOk result (λ o. o ≡ hint_that_fails problem.now earlier.now (spec.step_of clause.now hints.now)) }
+    ensures clear { board.new ≡ replicate (length board.new) None }
+{
+    made(alloc, board, problem.atoms() as usize)?;
+    let fault = failing_hint(board, problem, earlier, clause, hints);
+    board.clear();
+    match fault {
+        Some(hint) => Ok(Some(hint as u32)),
+        None => Ok(None),
+    }
+}
+
+/// Makes the board for so many atoms, if it is not one already.
+fn made(alloc: Global, board: &mut Board, atoms: usize) -> Result<(), AllocError>
+    requires { board.old ≡ replicate (length board.old) None }
+    ensures made { OnOk result (board.new ≡ replicate atoms None) }
+    ensures kept { OnErr result (board.new ≡ board.old) }
+{
+    if board.values().len() == atoms {
+        return Ok(());
+    }
+    *board = Board::unset(alloc, atoms)?;
+    Ok(())
+}
+
+/// Puts the step behind the others, and answers its number.
+fn pushed(
+    alloc: Global,
+    steps: &mut Vec<Step>,
+    clause: &[Lit],
+    hints: &[Hint],
+) -> Result<u32, AllocError>
+    requires { length steps.old.items < 2 ^ 32 }
+    ensures number { IfOk result (λ n. n ≡ length steps.old.items) }
+    ensures pushed { OnOk result (steps.new.items ≡ steps.old.items ++ spec.step_of clause.now hints.now ∷ []) }
+    ensures few { length steps.new.items < 2 ^ 32 }
+    ensures kept { OnErr result (steps.new.items ≡ steps.old.items) }
+{
+    let number = steps.len();
+    if number >= u32::MAX as usize {
+        return Err(AllocError);
+    }
+    steps.push(copied(alloc, clause, hints)?)?;
+    Ok(number as u32)
 }
 
 /// The step with this clause and these hints.
