@@ -1,5 +1,6 @@
 -- The steps of a set that is closed under hints: renumbered, they are accepted.
 use Rattle.std.proofs.Common.{◌≡◌, ℕ, zero, suc, ◌+◌, ◌-◌, ◌≤◌, ◌<◌, Bool, true, false, cond, List, [], ◌∷◌, ◌++◌, length, take, drop, drop-cons, get_or, refl, sym, ap, ◌∙◌, arith, Option, Some, None, slice_get, subst, append_assoc}
+use Rattle.std.proofs.Common.{Result, Ok, Err, IfOk}
 use Rattle.std.specs.Prelude.{map, count_by, slice_index, ◌||◌, ◌==◌}
 use Rattle.std.specs.List.{list_any, AllByRecursion as Each}
 use Rattle.std.proofs.lemmas.List.{take-append-le, length-append, take_all}
@@ -183,3 +184,9 @@ kept_yes all marks steps kept whole i s t e f is h = next kept t (sublist all (d
 
 pub kept_no : (all marks : List Bool) (steps kept whole : List Step) (i : ℕ) (s : Step) → slice_get marks i ≡ Some false → slice_get steps i ≡ Some s → kept ++ sublist all (drop i marks) (drop i steps) ≡ whole → kept ++ sublist all (drop (i + 1) marks) (drop (i + 1) steps) ≡ whole
 kept_no all marks steps kept whole i s e f h = ap (λ xs. kept ++ xs) (sym (sublist_no all marks steps i s e f)) ∙ h
+
+-- ---- facts under an Ok
+
+pub ok_map : {T E : Type 0} (P Q : T → Type 0) (r : Result T E) → ((x : T) → P x → Q x) → IfOk r P → IfOk r Q
+ok_map P Q (Ok x) f h = f x h
+ok_map P Q (Err e) f h = h

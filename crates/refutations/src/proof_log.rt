@@ -93,10 +93,10 @@ impl ProofLog {
         if let Some(hint) = fault {
             return Err(LogFault::NotAccepted { hint });
         }
-        match pushed(alloc, &mut self.steps, clause, hints) {
-            Ok(number) => Ok(number),
-            Err(_) => Err(LogFault::NoMemory),
-        }
+        let Ok(number) = pushed(alloc, &mut self.steps, clause, hints) else {
+            return Err(LogFault::NoMemory);
+        };
+        Ok(number)
     }
 
     /// The lemma whose clause is the step's: the steps up to and with it. The step is one of the
