@@ -1,5 +1,5 @@
 -- The last step of a list, and lemmas and refutations that begin a log.
-use Rattle.std.proofs.Common.{◌≡◌, ℕ, zero, suc, ◌+◌, ◌-◌, ◌<◌, ◌≤◌, List, [], ◌∷◌, length, take, get_or, refl, sym, ap, ◌∙◌, arith, Option, Some, None, slice_get, subst}
+use Rattle.std.proofs.Common.{◌≡◌, ℕ, zero, suc, ◌+◌, ◌-◌, ◌<◌, ◌≤◌, List, [], ◌∷◌, ◌++◌, length, take, get_or, refl, sym, ap, ◌∙◌, arith, Option, Some, None, slice_get, subst}
 use Rattle.std.proofs.lemmas.List.{length-take-le}
 use Rattle.std.proofs.lemmas.Option.{slice_get_within, slice_get_past}
 use Rattle.count_core.specs.declared.lit.Lit.{Lit}
@@ -45,3 +45,11 @@ last_follows problem steps h =
     let lt : length steps - 1 < length steps = omega (arith, h.some) in
     let there = step_there steps (length steps - 1) lt in
     subst (Follows problem) (sym (ap clause_of there.1)) (clause_follows problem steps h.accepted (length steps - 1) there.0 there.1)
+
+-- a step put at the end stands at the number of those before it
+pub clause_pushed : (steps : List Step) (s : Step) (n : ℕ) → n ≡ length steps → clause_at (steps ++ s ∷ []) n ≡ s.clause
+clause_pushed steps s n e = rw e (ap clause_of (there steps))
+  where
+    there : (xs : List Step) → slice_get (xs ++ s ∷ []) (length xs) ≡ Some s
+    there [] = refl
+    there (x ∷ xs) = there xs

@@ -16,6 +16,8 @@ mod proof_log;
 mod propagation;
 mod shift;
 mod tally;
+#[cfg(test)]
+mod tests;
 
 pub use closed::Closed;
 pub use count_core::NoMemory;

@@ -1,4 +1,4 @@
-ghost use Rattle.std.specs.Prelude.{◌≡◌, ◌+◌, ◌^◌, ◌<◌, ◌++◌, [], ◌∷◌, ℕ, length, map, take, replicate, Some, None, IfOk, IfErr, OnOk, OnErr, IsErrOf};
+ghost use Rattle.std.specs.Prelude.{◌≡◌, ◌+◌, ◌^◌, ◌<◌, ◌⊎◌, ◌++◌, [], ◌∷◌, ℕ, length, map, take, replicate, Some, None, IfOk, IfErr, OnOk, OnErr, IsErrOf};
 ghost use Rattle.std.specs.Arc.{arc_value};
 ghost use Rattle.count_core.specs.Steps.{IsAccepted, AreAccepted, NegatesOnly, failing_hint as hint_that_fails};
 ghost use Rattle.refutations.specs.Derivations as spec;
@@ -12,9 +12,7 @@ use crate::lemma::Lemma;
 use crate::log_fault::LogFault;
 use crate::propagation::failing_hint;
 use crate::shift::shifted_all;
-use count_core::{
-    Hint, Hints, Lit, Lits, NoMemory, Problem, Question, SharedProblem, Step, Steps,
-};
+use count_core::{Hint, Hints, Lit, Lits, NoMemory, Problem, Question, SharedProblem, Step, Steps};
 use std::alloc::{AllocError, Global};
 use std::marker::Model;
 use std::sync::Arc;
@@ -75,9 +73,12 @@ impl ProofLog {
         requires few { length hints.now < 2 ^ 32 }
         ensures number { IfOk result (λ n. n ≡ length self.old.steps) }
         ensures added { OnOk result (self.new.steps ≡ self.old.steps ++ spec.step_of clause.now hints.now ∷ []) }
+        ensures clause { IfOk result (λ n. spec.clause_at self.new.steps n ≡ clause.now) }
         ensures problem { self.new.problem ≡ self.old.problem }
         ensures accepted { OnOk result (IsAccepted self.old.problem self.old.steps (spec.step_of clause.now hints.now)) }
         ensures refused { (n : ℕ) → IsErrOf result (LogFault.NotAccepted n) → hint_that_fails self.old.problem self.old.steps (spec.step_of clause.now hints.now) ≡ Some n }
+        ensures told { (n : ℕ) → hint_that_fails self.old.problem self.old.steps (spec.step_of clause.now hints.now) ≡ Some n → IfErr result (λ e. (e ≡ LogFault.NotAccepted n) ⊎ (e ≡ LogFault.NoMemory)) }
+        ensures taken { IsAccepted self.old.problem self.old.steps (spec.step_of clause.now hints.now) → IfErr result (λ e. e ≡ LogFault.NoMemory) }
         ensures kept { OnErr result (self.new ≡ self.old) }
     {
         let Ok(fault) = tested(

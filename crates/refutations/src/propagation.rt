@@ -103,12 +103,7 @@ fn find_rule<'a>(problem: &'a Problem, earlier: &'a [Step], hint: Hint) -> Optio
 }
 
 /// Applies the hints in turn to the values, and says which one fails, if one does.
-fn walk(
-    board: &mut Board,
-    problem: &Problem,
-    earlier: &[Step],
-    hints: &[Hint],
-) -> Option<usize>
+fn walk(board: &mut Board, problem: &Problem, earlier: &[Step], hints: &[Hint]) -> Option<usize>
     ensures answer { result ≡ spec.failing_from (spec.rule_at problem.now earlier.now) board.old hints.now 0 }
     ensures within { IfSome result (λ n. n ≤ length hints.now) }
     ensures atoms { length board.new ≡ length board.old }

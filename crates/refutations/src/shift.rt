@@ -1,4 +1,4 @@
-ghost use Rattle.std.specs.Prelude.{◌≡◌, ◌+◌, ◌^◌, ◌<◌, ◌≤◌, length, map, IfOk};
+ghost use Rattle.std.specs.Prelude.{◌≡◌, ◌+◌, ◌-◌, ◌^◌, ◌<◌, length, map, IfOk};
 ghost use Rattle.std.specs.List.{AllByRecursion};
 ghost use Rattle.refutations.specs.Earlier.{IsBelow, AreEarlier};
 ghost use Rattle.refutations.specs.Shifts as spec;
@@ -17,47 +17,38 @@ pub(crate) fn shifted_all(
     ensures { IfOk result (λ v. v.items ≡ map (spec.shifted shift) steps.now) }
 {
     let mut copies = Vec::with_capacity(alloc, steps.len())?;
-    for (i, step) in steps.iter().enumerate() {
-        copies.push(shifted(alloc, step, shift, i)?)?;
+    for step in steps {
+        copies.push(shifted(alloc, step, shift)?)?;
     }
     Ok(copies)
 }
 
-/// A copy of the step that has this number.
-fn shifted(alloc: Global, step: &Step, shift: u32, number: usize) -> Result<Step, AllocError>
-    requires few { number + shift < 2 ^ 32 }
-    requires earlier { AllByRecursion (IsBelow number) step.now.hints }
+/// A copy of the step, whose hints to steps are to numbers that can be shifted.
+fn shifted(alloc: Global, step: &Step, shift: u32) -> Result<Step, AllocError>
+    requires { AllByRecursion (IsBelow (2 ^ 32 - shift)) step.now.hints }
     ensures { IfOk result (λ s. s ≡ spec.shifted shift step.now) }
 {
     let clause = step.clause.clone_in(alloc)?;
-    let hints = shifted_hints(alloc, step.hints.as_slice(), shift, number)?;
+    let hints = shifted_hints(alloc, step.hints.as_slice(), shift)?;
     Ok(Step {
         clause,
         hints: Hints::new(hints),
     })
 }
 
-fn shifted_hints(
-    alloc: Global,
-    hints: &[Hint],
-    shift: u32,
-    number: usize,
-) -> Result<Vec<Hint>, AllocError>
-    requires few { number + shift < 2 ^ 32 }
-    requires earlier { AllByRecursion (IsBelow number) hints.now }
+fn shifted_hints(alloc: Global, hints: &[Hint], shift: u32) -> Result<Vec<Hint>, AllocError>
+    requires { AllByRecursion (IsBelow (2 ^ 32 - shift)) hints.now }
     ensures { IfOk result (λ v. v.items ≡ map (spec.shifted_hint shift) hints.now) }
 {
     let mut copies = Vec::with_capacity(alloc, hints.len())?;
     for hint in hints {
-        copies.push(shifted_hint(*hint, shift, number))?;
+        copies.push(shifted_hint(*hint, shift))?;
     }
     Ok(copies)
 }
 
-/// The hint of the step with this number.
-fn shifted_hint(hint: Hint, shift: u32, number: usize) -> Hint
-    requires few { number + shift < 2 ^ 32 }
-    requires earlier { IsBelow number hint }
+fn shifted_hint(hint: Hint, shift: u32) -> Hint
+    requires { IsBelow (2 ^ 32 - shift) hint }
     ensures { result ≡ spec.shifted_hint shift hint }
 {
     match hint {

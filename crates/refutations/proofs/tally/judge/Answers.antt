@@ -6,8 +6,8 @@ use Rattle.refutations.proofs.tally.judge.Goals.{then-trues-hi-via-then-trues-hi
 pub returns-then-trues-hi-clause-conflicts : goal.returns-then-trues-hi-clause-conflicts
 returns-then-trues-hi-clause-conflicts c = λ e.
     elim c.then-trues-hi.branch [
-      then-trues-hi-via-then-trues-hi w ↦ full_conflicts c.args.values.now c.args.lits.now c.args.lo c.args.hi c.count-trues.result.trues c.count-trues.result.falses c.count-trues.ensures.trues c.count-trues.ensures.falses (omega arith)
-    | then-trues-hi-via-else-trues-hi+then-possible-lo w ↦ scarce_conflicts c.args.values.now c.args.lits.now c.args.lo c.args.hi c.count-trues.result.trues c.count-trues.result.falses c.count-trues.ensures.trues c.count-trues.ensures.falses (omega arith)
+      | then-trues-hi-via-then-trues-hi w ↦ full_conflicts c.args.values.now c.args.lits.now c.args.lo c.args.hi c.count-trues.result.trues c.count-trues.result.falses c.count-trues.ensures.trues c.count-trues.ensures.falses (omega arith)
+      | then-trues-hi-via-else-trues-hi+then-possible-lo w ↦ scarce_conflicts c.args.values.now c.args.lits.now c.args.lo c.args.hi c.count-trues.result.trues c.count-trues.result.falses c.count-trues.ensures.trues c.count-trues.ensures.falses (omega arith)
     ]
 
 pub returns-then-possible-trues-clause-quiet : goal.returns-then-possible-trues-clause-quiet
