@@ -1,0 +1,16 @@
+use Rattle.std.proofs.Common.{◌≡◌, ◌∙◌, arith, sym, ap, not, true, false, length, get_or}
+use Rattle.count_core.specs.Problems.{repeats}
+use Rattle.count_core.specs.Partials.{is_unset}
+use Rattle.refutations.proofs.Values.{deny_met, deny_none, deny_repeats}
+use Rattle.refutations.proofs.propagation.deny.Goals as goal
+
+pub returns-then-is_set-clause-distinct : goal.returns-then-is_set-clause-distinct
+returns-then-is_set-clause-distinct c =
+    let met = rw c.values.ensures at (sym c.is_set.ensures ∙ c.if-is_set.true) in
+    let e : repeats c.args.clause.now ≡ true = sym (deny_repeats c.args.board.now _ c.args.clause.now c.requires.unset c.requires.within) ∙ sym c.loop-lit.invariant.rest ∙ deny_met c.loop-lit.board c.args.clause.now c.loop-lit.lit-index _ (omega arith) met in
+    ap not (sym e)
+
+pub returns-clause-distinct : goal.returns-clause-distinct
+returns-clause-distinct c =
+    let e : repeats c.args.clause.now ≡ false = sym (deny_repeats c.args.board.now _ c.args.clause.now c.requires.unset c.requires.within) ∙ sym c.loop-lit.invariant.rest ∙ deny_none c.loop-lit.board c.args.clause.now c.loop-lit.lit-index (omega arith) in
+    ap not (sym e)

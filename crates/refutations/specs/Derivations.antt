@@ -1,0 +1,39 @@
+-- Logs, lemmas and closed questions, as contracts see them. What an accepted step, an accepted list, a
+-- refutation and a clause that follows are, count_core says.
+use Rattle.std.specs.Prelude.{◌≡◌, ℕ, ◌-◌, ◌<◌, List, [], length, Option, Some, None, slice_get}
+use Rattle.count_core.specs.declared.lit.Lit.{Lit}
+use Rattle.count_core.specs.declared.hint.Hint.{Hint}
+use Rattle.count_core.specs.declared.step.Step.{Step}
+use Rattle.count_core.specs.Problems.{Problem}
+use Rattle.count_core.specs.Steps.{AreAccepted}
+
+-- A problem, and steps over it. A log and a lemma are seen as one.
+pub record Derivation : Type 0 where
+  pub problem : Problem
+  pub steps : List Step
+
+-- A problem, a question, and steps over the problem. A closed question is seen as one.
+pub record Closing : Type 0 where
+  pub problem : Problem
+  pub question : List Lit
+  pub steps : List Step
+
+abbrev pub step_of : List Lit → List Hint → Step
+step_of clause hints = record { clause = clause; hints = hints }
+
+abbrev pub clause_of : Option Step → List Lit
+clause_of None = []
+clause_of (Some s) = s.clause
+
+-- the clause of the step with this number
+abbrev pub clause_at : List Step → ℕ → List Lit
+clause_at steps n = clause_of (slice_get steps n)
+
+-- the clause of the last step
+abbrev pub last_clause : List Step → List Lit
+last_clause steps = clause_at steps (length steps - 1)
+
+-- A lemma: an accepted list of at least one step, from the rules alone.
+pub record IsLemma (problem : Problem) (steps : List Step) : Type 0 where
+  pub accepted : AreAccepted problem steps
+  pub some : 0 < length steps

@@ -1,0 +1,58 @@
+ghost use Rattle.std.specs.Prelude.{◌≡◌, ◌+◌, ◌-◌, ◌^◌, ◌<◌, length, map, IfOk};
+ghost use Rattle.std.specs.List.{AllByRecursion};
+ghost use Rattle.refutations.specs.Earlier.{IsBelow, AreEarlier};
+ghost use Rattle.refutations.specs.Shifts as spec;
+
+use count_core::{Hint, Hints, Step};
+use std::alloc::{AllocError, Global};
+
+/// Copies of the steps, whose hints to steps have the shifted numbers.
+pub(crate) fn shifted_all(
+    alloc: Global,
+    steps: &[Step],
+    shift: u32,
+) -> Result<Vec<Step>, AllocError>
+    requires few { length steps.now + shift < 2 ^ 32 }
+    requires earlier { AreEarlier steps.now }
+    ensures { IfOk result (λ v. v.items ≡ map (spec.shifted shift) steps.now) }
+{
+    let mut copies = Vec::with_capacity(alloc, steps.len())?;
+    for step in steps {
+        copies.push(shifted(alloc, step, shift)?)?;
+    }
+    Ok(copies)
+}
+
+/// A copy of the step, whose hints to steps are to numbers that can be shifted.
+fn shifted(alloc: Global, step: &Step, shift: u32) -> Result<Step, AllocError>
+    requires { AllByRecursion (IsBelow (2 ^ 32 - shift)) step.now.hints }
+    ensures { IfOk result (λ s. s ≡ spec.shifted shift step.now) }
+{
+    let clause = step.clause.clone_in(alloc)?;
+    let hints = shifted_hints(alloc, step.hints.as_slice(), shift)?;
+    Ok(Step {
+        clause,
+        hints: Hints::new(hints),
+    })
+}
+
+fn shifted_hints(alloc: Global, hints: &[Hint], shift: u32) -> Result<Vec<Hint>, AllocError>
+    requires { AllByRecursion (IsBelow (2 ^ 32 - shift)) hints.now }
+    ensures { IfOk result (λ v. v.items ≡ map (spec.shifted_hint shift) hints.now) }
+{
+    let mut copies = Vec::with_capacity(alloc, hints.len())?;
+    for hint in hints {
+        copies.push(shifted_hint(*hint, shift))?;
+    }
+    Ok(copies)
+}
+
+fn shifted_hint(hint: Hint, shift: u32) -> Hint
+    requires { IsBelow (2 ^ 32 - shift) hint }
+    ensures { result ≡ spec.shifted_hint shift hint }
+{
+    match hint {
+        Hint::Rule(rule) => Hint::Rule(rule),
+        Hint::Step(step) => Hint::Step(step + shift),
+    }
+}

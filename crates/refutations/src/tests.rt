@@ -1,0 +1,300 @@
+use crate::{Closed, LogFault, NoMemory, ProofLog};
+use count_core::{
+    Atom, CountRule, Hint, Lit, Lits, Problem, Question, SharedProblem, Step, are_distinct,
+};
+use std::alloc::Global;
+
+/// Two pots of two teams in two groups; the atom of team i in group k is 2 * i + k. Each team in one
+/// group, in each group one team of each pot, in each group at most one team. No assignment
+/// satisfies all ten.
+const CLASH: [(&[u32], u32, u32); 10] = [
+    (&[0, 1], 1, 1),
+    (&[2, 3], 1, 1),
+    (&[4, 5], 1, 1),
+    (&[6, 7], 1, 1),
+    (&[0, 2], 1, 1),
+    (&[4, 6], 1, 1),
+    (&[1, 3], 1, 1),
+    (&[5, 7], 1, 1),
+    (&[0, 2, 4, 6], 0, 1),
+    (&[1, 3, 5, 7], 0, 1),
+];
+
+const YES_0: Lit = Lit {
+    atom: Atom(0),
+    positive: true,
+};
+
+const NO_0: Lit = Lit {
+    atom: Atom(0),
+    positive: false,
+};
+
+const NO_2: Lit = Lit {
+    atom: Atom(2),
+    positive: false,
+};
+
+const NO_4: Lit = Lit {
+    atom: Atom(4),
+    positive: false,
+};
+
+const NO_8: Lit = Lit {
+    atom: Atom(8),
+    positive: false,
+};
+
+/// A clause and its hints.
+type Line<'a> = (&'a [Lit], &'a [Hint]);
+
+/// No team of the first pot is in the first group, so the empty clause. The third pot's first team
+/// is not there either, on which nothing rests.
+const STEPS: [Line<'static>; 4] = [
+    (&[NO_0], &[Hint::Rule(8), Hint::Rule(5)]),
+    (&[NO_4], &[Hint::Rule(8), Hint::Rule(4)]),
+    (&[NO_2], &[Hint::Rule(8), Hint::Rule(5)]),
+    (&[], &[Hint::Step(0), Hint::Step(2), Hint::Rule(4)]),
+];
+
+/// What the last of them rests on.
+const CONE: [Line<'static>; 3] = [
+    (&[NO_0], &[Hint::Rule(8), Hint::Rule(5)]),
+    (&[NO_2], &[Hint::Rule(8), Hint::Rule(5)]),
+    (&[], &[Hint::Step(0), Hint::Step(1), Hint::Rule(4)]),
+];
+
+fn rules_of(alloc: Global) -> Result<Vec<CountRule>, NoMemory> {
+    let mut rules = Vec::new(alloc);
+    for (atoms, lo, hi) in CLASH {
+        let mut lits = Vec::new(alloc);
+        for atom in atoms {
+            lits.push(Lit {
+                atom: Atom(*atom),
+                positive: true,
+            })?;
+        }
+        rules.push(CountRule {
+            lits: Lits::new(lits),
+            lo,
+            hi,
+        })?;
+    }
+    Ok(rules)
+}
+
+fn clash(alloc: Global) -> Option<SharedProblem> {
+    match rules_of(alloc) {
+        Ok(rules) if rules.len() < 100 => {
+            let problem = Problem::build(alloc, 8, rules).ok()?;
+            SharedProblem::new(alloc, problem).ok()
+        }
+        _ => None,
+    }
+}
+
+/// What the log answers to the line, where there are few hints.
+fn add_line(alloc: Global, log: &mut ProofLog, line: Line<'_>) -> Result<u32, LogFault> {
+    let (clause, hints) = line;
+    if hints.len() > 9 {
+        return Err(LogFault::NoMemory);
+    }
+    log.add(alloc, clause, hints)
+}
+
+/// A log of these steps, or none where one is not accepted.
+fn log_of(alloc: Global, lines: &[Line<'_>]) -> Option<ProofLog> {
+    let mut log = ProofLog::new(alloc, clash(alloc)?);
+    for line in lines {
+        let _number = add_line(alloc, &mut log, *line).ok()?;
+    }
+    Some(log)
+}
+
+/// What a log of these steps answers to a further one.
+fn added(alloc: Global, before: &[Line<'_>], line: Line<'_>) -> Option<Result<u32, LogFault>> {
+    let mut log = log_of(alloc, before)?;
+    let answer = add_line(alloc, &mut log, line);
+    if answer.is_err() && log.steps().len() != before.len() {
+        return None;
+    }
+    Some(answer)
+}
+
+fn refused(hint: u32) -> Result<u32, LogFault> {
+    Err(LogFault::NotAccepted { hint })
+}
+
+#[test]
+fn adds_accepted_steps(rt: HostRuntime) {
+    let cases: [(&[Line<'_>], Line<'_>, Result<u32, LogFault>); 17] = [
+        (&[], STEPS[0], Ok(0)),
+        (&STEPS[..3], STEPS[3], Ok(3)),
+        (&[], (&[NO_0], &[Hint::Rule(8), Hint::Rule(4)]), refused(1)),
+        (
+            &[],
+            (&[NO_0], &[Hint::Rule(9), Hint::Rule(8), Hint::Rule(5)]),
+            refused(0),
+        ),
+        (&[], (&[NO_0], &[Hint::Rule(8)]), refused(1)),
+        (
+            &[],
+            (&[NO_0, NO_0], &[Hint::Rule(8), Hint::Rule(5)]),
+            refused(0),
+        ),
+        (&[], (&[NO_0], &[]), refused(0)),
+        (
+            &[],
+            (&[NO_0], &[Hint::Rule(8), Hint::Rule(5), Hint::Rule(4)]),
+            refused(1),
+        ),
+        // An atom out of range, and an atom with its negation.
+        (&[], (&[NO_8], &[Hint::Rule(8), Hint::Rule(5)]), refused(0)),
+        (
+            &[],
+            (&[NO_0, YES_0], &[Hint::Rule(8), Hint::Rule(5)]),
+            refused(0),
+        ),
+        // A rule that is not there, a later step, the step itself.
+        (
+            &[],
+            (&[NO_0], &[Hint::Rule(8), Hint::Rule(4294967295)]),
+            refused(1),
+        ),
+        (
+            &STEPS[..1],
+            (&[NO_2], &[Hint::Step(2), Hint::Rule(5)]),
+            refused(0),
+        ),
+        (
+            &STEPS[..1],
+            (&[NO_2], &[Hint::Rule(8), Hint::Step(1)]),
+            refused(1),
+        ),
+        // The empty clause too early: the last hint forces, or a step forces once and then no more.
+        (
+            &STEPS[..1],
+            (&[], &[Hint::Step(0), Hint::Rule(4)]),
+            refused(2),
+        ),
+        (
+            &STEPS[..1],
+            (&[], &[Hint::Step(0), Hint::Step(0)]),
+            refused(1),
+        ),
+        (&STEPS[..1], (&[], &[]), refused(0)),
+        // An accepted step may stand again.
+        (&STEPS, STEPS[0], Ok(4)),
+    ];
+    for (before, line, want) in cases {
+        assert_eq!(rt; added(rt.alloc(), before, line), Some(want), "{line:?}");
+    }
+}
+
+/// Whether the steps are these lines.
+fn are(steps: &[Step], lines: &[Line<'_>]) -> bool {
+    steps.len() == lines.len()
+        && steps.iter().zip(lines).all(|(step, (clause, hints))| step.clause.as_slice() == *clause
+            && step.hints.as_slice() == *hints)
+}
+
+/// Compiles only for values that threads may share.
+fn shared<T: Send + Sync>(value: T) -> T {
+    value
+}
+
+/// The clause's length and the steps of a copy of the lemma at this step.
+fn lemma_is(alloc: Global, step: u32, clause: &[Lit], lines: &[Line<'_>]) -> Option<bool> {
+    let log = shared(log_of(alloc, &STEPS)?);
+    if step as usize >= log.steps().len() {
+        return None;
+    }
+    let lemma = log.lemma(alloc, step).ok()?;
+    let copy = shared(lemma.clone_in(alloc).ok()?);
+    let same = copy.problem().equals(log.problem());
+    Some(same && copy.clause() == clause && are(copy.steps(), lines))
+}
+
+#[test]
+fn lemmas(rt: HostRuntime) {
+    let cases: [(u32, &[Lit], &[Line<'_>]); 3] = [
+        (0, &[NO_0], &STEPS[..1]),
+        (2, &[NO_2], &STEPS[..3]),
+        (3, &[], &STEPS),
+    ];
+    for (step, clause, lines) in cases {
+        let answer = lemma_is(rt.alloc(), step, clause, lines);
+        assert_eq!(rt; answer, Some(true), "step {step}");
+    }
+}
+
+fn question_of(alloc: Global, lits: &[Lit]) -> Option<Question> {
+    let lits = Lits::from_slice(alloc, lits).ok()?;
+    if !are_distinct(lits.as_slice()) {
+        return None;
+    }
+    Some(Question::new(lits))
+}
+
+/// The question closed by the empty clause.
+fn closed_of(alloc: Global, lits: &[Lit]) -> Option<Closed> {
+    let mut log = log_of(alloc, &STEPS[..3])?;
+    let number = log.add(alloc, &[], STEPS[3].1).ok()?;
+    let question = question_of(alloc, lits)?;
+    let closed = log.closed(alloc, number, &question).ok()?;
+    closed.clone_in(alloc).ok()
+}
+
+fn closed_is(alloc: Global, lits: &[Lit]) -> Option<bool> {
+    let closed = shared(closed_of(alloc, lits)?);
+    let atoms = closed.problem().atoms();
+    Some(atoms == 8 && closed.question().lits() == lits && are(closed.steps(), &STEPS))
+}
+
+#[test]
+fn closed_questions(rt: HostRuntime) {
+    let cases: [&[Lit]; 3] = [&[], &[YES_0], &[NO_4, NO_2]];
+    for lits in cases {
+        assert_eq!(rt; closed_is(rt.alloc(), lits), Some(true), "{lits:?}");
+    }
+}
+
+fn cone_is(alloc: Global, step: u32, lines: &[Line<'_>]) -> Option<bool> {
+    let log = log_of(alloc, &STEPS)?;
+    if step as usize >= log.steps().len() {
+        return None;
+    }
+    let cone = log.cone(alloc, step).ok()?;
+    Some(are(&cone, lines))
+}
+
+#[test]
+fn cones(rt: HostRuntime) {
+    let cases: [(u32, &[Line<'_>]); 3] = [(3, &CONE), (2, &CONE[1..2]), (1, &STEPS[1..2])];
+    for (step, lines) in cases {
+        assert_eq!(rt; cone_is(rt.alloc(), step, lines), Some(true), "step {step}");
+    }
+}
+
+fn joined(alloc: Global) -> Option<(u32, bool)> {
+    let problem = clash(alloc)?;
+    let mut log = ProofLog::new(alloc, SharedProblem::try_clone(&problem).ok()?);
+    let mut other = ProofLog::new(alloc, problem);
+    let _first = add_line(alloc, &mut log, STEPS[1]).ok()?;
+    let _second = add_line(alloc, &mut other, STEPS[0]).ok()?;
+    let _third = add_line(alloc, &mut other, STEPS[2]).ok()?;
+    let _fourth = add_line(alloc, &mut other, CONE[2]).ok()?;
+    let shift = log.append_all(alloc, &other).ok()?;
+    let want = [
+        STEPS[1],
+        STEPS[0],
+        STEPS[2],
+        (&[], &[Hint::Step(1), Hint::Step(2), Hint::Rule(4)]),
+    ];
+    Some((shift, are(log.steps(), &want)))
+}
+
+#[test]
+fn one_log_behind_another(rt: HostRuntime) {
+    assert_eq!(rt; joined(rt.alloc()), Some((1, true)));
+}
