@@ -158,23 +158,24 @@ fn lists_over_the_clash(rt: HostRuntime) {
     }
 }
 
-/// Rules at their bounds, over seven atoms.
+/// At least three of atoms 0 to 3; at most two of 1 to 3; both of 4 and 5; neither of 4 and 6.
+const BOUNDS: [Row<'static>; 4] = [
+    (&[0, 1, 2, 3], 3, 4),
+    (&[1, 2, 3], 0, 2),
+    (&[4, 5], 2, 2),
+    (&[4, 6], 0, 0),
+];
+
+const FIRST_TWO: &[Hint] = &[Hint::Rule(0), Hint::Rule(1)];
+
 #[test]
 fn bounds_of_rules(rt: HostRuntime) {
     let accepted = Outcome::Answer(Checked::Accepted);
-    // At least three of 0 to 3; at most two of 1 to 3; exactly two of 4 and 5; none of 4 and 6.
-    let rows: [Row<'_>; 4] = [
-        (&[0, 1, 2, 3], 3, 4),
-        (&[1, 2, 3], 0, 2),
-        (&[4, 5], 2, 2),
-        (&[4, 6], 0, 0),
-    ];
-    let both: [Hint; 2] = [Hint::Rule(0), Hint::Rule(1)];
     let cases: [(&[Line<'_>], Outcome); 5] = [
         // Without 0 all of 1 to 3 are true, which is one too many.
-        (&[(&[(0, true)], &both)], accepted),
+        (&[(&[(0, true)], FIRST_TWO)], accepted),
         // Without 1 the first rule forces 0, 2 and 3, which the second allows.
-        (&[(&[(1, true)], &both)], bad(0, 1)),
+        (&[(&[(1, true)], FIRST_TWO)], bad(0, 1)),
         // Nothing is unset that the second rule could force.
         (
             &[(&[(1, false), (2, false), (3, true)], &[Hint::Rule(1)])],
@@ -185,7 +186,7 @@ fn bounds_of_rules(rt: HostRuntime) {
         (&[(&[], &[Hint::Rule(3), Hint::Rule(2)])], accepted),
     ];
     for (lines, want) in cases {
-        assert_eq!(rt; answer_to(rt.alloc(), 7, &rows, lines), want, "{lines:?}");
+        assert_eq!(rt; answer_to(rt.alloc(), 7, &BOUNDS, lines), want, "{lines:?}");
     }
 }
 
