@@ -1,5 +1,6 @@
-ghost use Rattle.std.specs.Prelude.{◌≡◌};
+ghost use Rattle.std.specs.Prelude.{◌≡◌, true, IfOk};
 ghost use Rattle.draw_ports.specs.Causes.{Rose};
+ghost use Rattle.stepcheck.specs.Statuses.{has_line};
 
 use crate::listing::{ListFault, Listing};
 use crate::status::Status;
@@ -47,9 +48,11 @@ fn limit_of(words: &[String]) -> Option<u64> {
     }
 }
 
-/// Writes the bytes, and ends with the status, or with WriteFault.
+/// Writes the line of the status, and ends with it, or with WriteFault.
 fn written<K: Sink>(out: &mut K, bytes: &[u8], status: Status) -> Status
-    ensures { result ≡ Status.WriteFault → (status ≡ Status.WriteFault → ⊥) → Rose (K.faults out.old) (K.faults out.new) }
+    requires { has_line status ≡ true }
+    ensures write { result ≡ Status.WriteFault → Rose (K.faults out.old) (K.faults out.new) }
+    ensures read { result ≡ Status.ReadFault → ⊥ }
 {
     match put_all(out, bytes) {
         Ok(()) => status,
@@ -58,7 +61,9 @@ fn written<K: Sink>(out: &mut K, bytes: &[u8], status: Status) -> Status
 }
 
 /// The line for a text, and the status with which the program ends once it is written.
-fn reply_to(alloc: Global, text: &[u8]) -> Result<(String, Status), Unsaid> {
+fn reply_to(alloc: Global, text: &[u8]) -> Result<(String, Status), Unsaid>
+    ensures { IfOk result (λ reply. has_line reply.1 ≡ true) }
+{
     let listing = match Listing::read(alloc, text) {
         Ok(listing) => listing,
         Err(ListFault::Line(line)) => return said(not_a_list(alloc, line), Status::Refused),
@@ -71,7 +76,9 @@ fn reply_to(alloc: Global, text: &[u8]) -> Result<(String, Status), Unsaid> {
     }
 }
 
-fn said(line: Result<String, NoMemory>, status: Status) -> Result<(String, Status), Unsaid> {
+fn said(line: Result<String, NoMemory>, status: Status) -> Result<(String, Status), Unsaid>
+    ensures { IfOk result (λ reply. reply.1 ≡ status) }
+{
     match line {
         Ok(line) => Ok((line, status)),
         Err(_) => Err(Unsaid::NoMemory),
