@@ -1,0 +1,5 @@
+pub mod Trails
+pub mod Clauses
+pub mod FirstBad
+pub mod Effects
+pub mod Turns

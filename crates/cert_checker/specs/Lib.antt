@@ -1,0 +1,4 @@
+pub mod Countable
+pub mod Checks
+pub mod Named
+pub mod Trails
