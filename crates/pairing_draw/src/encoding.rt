@@ -28,9 +28,7 @@ pub fn encode(alloc: Global, file: &DrawFile) -> Result<Problem, NoMemory>
     let mut rules = Vec::new(alloc);
     add_rows(alloc, &mut rules, runners.len(), winners.len())?;
     add_columns(alloc, &mut rules, runners.len(), winners.len())?;
-    for (place, runner) in runners.iter().enumerate() {
-        add_bans(alloc, &mut rules, file, place, *runner, &winners)?;
-    }
+    add_bans(alloc, &mut rules, file, &runners, &winners)?;
     problem_of(alloc, runners.len() as u32 * winners.len() as u32, rules)
 }
 
@@ -56,6 +54,7 @@ fn problem_of(alloc: Global, atoms: u32, rules: Vec<CountRule>) -> Result<Proble
 }
 
 /// Adds for each runner-up the rule that it gets one winner.
+#[tactic(auto, using(crate::proofs::Numbers::numbers_more))]
 fn add_rows(
     alloc: Global,
     rules: &mut Vec<CountRule>,
@@ -73,6 +72,7 @@ fn add_rows(
 }
 
 /// The rule that a runner-up gets one winner.
+#[tactic(auto, using(crate::proofs::Numbers::numbers_more))]
 fn row_rule(alloc: Global, winners: usize, runner: usize) -> Result<CountRule, NoMemory>
     requires winners { winners ≤ 40 }
     requires runner { runner ≤ 40 }
@@ -90,6 +90,7 @@ fn row_rule(alloc: Global, winners: usize, runner: usize) -> Result<CountRule, N
 }
 
 /// Adds for each winner the rule that it is given to one runner-up.
+#[tactic(auto, using(crate::proofs::Numbers::numbers_more))]
 fn add_columns(
     alloc: Global,
     rules: &mut Vec<CountRule>,
@@ -107,6 +108,7 @@ fn add_columns(
 }
 
 /// The rule that a winner is given to one runner-up.
+#[tactic(auto, using(crate::proofs::Numbers::numbers_more))]
 fn column_rule(
     alloc: Global,
     runners: usize,
@@ -129,8 +131,28 @@ fn column_rule(
     })
 }
 
-/// Adds for each winner that the runner-up may not meet the rule that it does not get it.
+/// Adds for each runner-up, and each winner that it may not meet, the rule that it does not get it.
 fn add_bans(
+    alloc: Global,
+    rules: &mut Vec<CountRule>,
+    file: &DrawFile,
+    runners: &[TeamId],
+    winners: &[TeamId],
+) -> Result<(), NoMemory>
+    requires few_runners { length runners.now ≤ 40 }
+    requires few_winners { length winners.now ≤ 40 }
+    requires runners { AreTeamsOf file.now runners.now }
+    requires winners { AreTeamsOf file.now winners.now }
+    ensures { OnOk result (rules.new.items ≡ rules.old.items ++ flat_map (bans_of file.now winners.now) (enumerate_from 0 runners.now)) }
+{
+    for (place, runner) in runners.iter().enumerate() {
+        add_bans_of(alloc, rules, file, place, *runner, winners)?;
+    }
+    Ok(())
+}
+
+/// Adds for each winner that the runner-up may not meet the rule that it does not get it.
+fn add_bans_of(
     alloc: Global,
     rules: &mut Vec<CountRule>,
     file: &DrawFile,
