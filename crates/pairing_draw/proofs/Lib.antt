@@ -10,3 +10,4 @@ pub mod Numbers
 pub mod Pieces
 pub mod Formed
 pub mod StateMoves
+pub mod Satisfying
