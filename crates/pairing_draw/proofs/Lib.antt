@@ -11,3 +11,4 @@ pub mod Pieces
 pub mod Formed
 pub mod StateMoves
 pub mod Satisfying
+pub mod Reading
