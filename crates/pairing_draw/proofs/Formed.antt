@@ -9,7 +9,7 @@ use Rattle.count_core.specs.declared.lit.Lit.{Lit}
 use Rattle.count_core.specs.declared.count_rule.CountRule.{CountRule}
 use Rattle.count_core.specs.Problems.{IsWellFormed, IsWellFormedRule}
 use Rattle.count_core.proofs.Rules.{distinct_from_places, within_from_each}
-use Rattle.draw_tables.specs.Pots.{winners, runners_up}
+use Rattle.draw_tables.specs.Pots.{winners, runners_up, teams_of_pot}
 use Rattle.draw_tables.specs.Pairings.{may_meet}
 use Rattle.pairing_draw.specs.Encoding.{atom_of, pair_lit, exactly_one, never, row_rule, column_rule, bans_of, rules_between, rules_of}
 use Rattle.pairing_draw.proofs.Numbers.{atom_within, small_product, same_atom, each_below, below_at}
@@ -77,14 +77,11 @@ module _ (file : DrawFile) (rs ws : List TeamId) where
       let f = small_product (length rs) (length ws) few_r few_w in
       omega arith
 
-pub few_winners : (file : DrawFile) → HasForm file → length (winners file) ≤ 40
-few_winners file form = omega (arith, pot_length 1 0 file.teams, form.few_teams)
-
-pub few_runners : (file : DrawFile) → HasForm file → length (runners_up file) ≤ 40
-few_runners file form = omega (arith, pot_length 2 0 file.teams, form.few_teams)
+pub few_teams : (file : DrawFile) (pot : ℕ) → HasForm file → length (teams_of_pot pot file) ≤ 40
+few_teams file pot form = omega (arith, pot_length pot 0 file.teams, form.few_teams)
 
 pub rules_formed : (file : DrawFile) → HasForm file → IsWellFormed (rules_of file)
 rules_formed file form = record {
   rules = rules file (runners_up file) (winners file);
-  few = omega (arith, number file (runners_up file) (winners file) (few_runners file form) (few_winners file form));
+  few = omega (arith, number file (runners_up file) (winners file) (few_teams file 2 form) (few_teams file 1 form));
 }

@@ -1,5 +1,5 @@
 -- Atoms as numbers, and lists over the numbers below n.
-use Rattle.std.proofs.Common.{◌≡◌, ℕ, zero, suc, ◌+◌, ◌*◌, ◌<◌, ◌≤◌, Bool, true, false, cond, List, [], ◌∷◌, ◌++◌, map, Some, slice_get, ◌⊎◌, inl, inr, refl, sym, ap, ◌∙◌, arith, subst}
+use Rattle.std.proofs.Common.{◌≡◌, ℕ, zero, suc, ◌+◌, ◌*◌, ◌<◌, ◌≤◌, Bool, true, false, cond, List, [], ◌∷◌, ◌++◌, map, Some, slice_get, ◌⊎◌, inl, inr, refl, sym, ap, ◌∙◌, arith, subst, append_assoc}
 use Rattle.std.specs.Prelude.{count_by}
 use Rattle.std.specs.List.{range_with_len, AllByRecursion as Each}
 use Rattle.std.proofs.Math.Nat.{mul-le-mul_left}
@@ -200,3 +200,7 @@ module _ {X : Type 0} (p : X → Bool) (f : ℕ → X) where
         passes = found.passes;
         only = λ j lt t. found.only j (omega arith) (omega arith) t;
       }
+
+-- one more item after the old ones
+pub more : {X : Type 0} (f : ℕ → X) (n : ℕ) (old so new : List X) (x : X) → so ≡ old ++ map f (range_with_len 0 n) → x ≡ f n → new ≡ so ++ x ∷ [] → new ≡ old ++ map f (range_with_len 0 (n + 1))
+more f n old so new x is same push = push ∙ rw (same, is, numbers_more f n) (append_assoc old (map f (range_with_len 0 n)) (f n ∷ []))

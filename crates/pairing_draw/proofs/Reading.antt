@@ -1,5 +1,5 @@
 -- A table that is read off values that satisfy the rules is legal and extends the moves.
-use Rattle.std.proofs.Common.{◌≡◌, ℕ, zero, suc, ◌+◌, ◌*◌, ◌<◌, ◌≤◌, Bool, true, false, cond, not, List, [], ◌∷◌, ◌++◌, length, map, Some, slice_get, refl, sym, ap, ◌∙◌, arith}
+use Rattle.std.proofs.Common.{◌≡◌, ℕ, zero, suc, ◌+◌, ◌*◌, ◌<◌, ◌≤◌, Bool, true, false, cond, not, List, [], ◌∷◌, ◌++◌, length, map, Some, slice_get, refl, sym, ap, ◌∙◌, arith, ◌⊎◌, inl, inr, length-append}
 use Rattle.std.specs.Prelude.{count_by}
 use Rattle.std.specs.List.{range_with_len, enumerate_from, flat_map, AllByRecursion as Each}
 use Rattle.team_files.specs.declared.team_id.TeamId.{TeamId}
@@ -147,3 +147,33 @@ pub values_complete : (file : DrawFile) (ms : List Move) (values : List Bool) �
 values_complete file ms values state meets =
     let table = some_read values (length (runners_up file)) (winners file) (row_true file values meets.rules) in
     (table.0, legal file values meets.rules table.0 table.1, extends file values meets.rules table.0 table.1 ms state meets.moves)
+
+-- ---- the reading, runner-up by runner-up
+
+pub read_none : (values : List Bool) (ws : List TeamId) → IsRead values 0 ws []
+read_none values ws = record { size = refl; atoms = λ r given e. cc }
+
+pub read_more : (values : List Bool) (m : ℕ) (ws table more : List TeamId) (given : TeamId) → IsRead values m ws table
+    → (w : ℕ) × (slice_get ws w ≡ Some given) × (value_of values (atom_of (length ws) m w) ≡ true)
+    → more ≡ table ++ given ∷ [] → IsRead values (m + 1) ws more
+read_more values m ws table more given read found push = rw push (record {
+  size = (let s = read.size in let l = length-append table (given ∷ []) in omega arith);
+  atoms = λ r x e. by_place r x e (at_push table given r x e);
+})
+  where
+    at_push : (xs : List TeamId) (y : TeamId) (r : ℕ) (x : TeamId) → slice_get (xs ++ y ∷ []) r ≡ Some x → (slice_get xs r ≡ Some x) ⊎ ((r ≡ length xs) × (y ≡ x))
+    at_push [] y zero x e = inr (refl, same_entry y x e)
+    at_push [] y (suc r) x e = cc
+    at_push (z ∷ xs) y zero x e = inl e
+    at_push (z ∷ xs) y (suc r) x e = up (at_push xs y r x e)
+      where
+        up : (slice_get xs r ≡ Some x) ⊎ ((r ≡ length xs) × (y ≡ x)) → (slice_get xs r ≡ Some x) ⊎ ((suc r ≡ suc (length xs)) × (y ≡ x))
+        up (inl h) = inl h
+        up (inr h) = inr (ap suc h.0, h.1)
+
+    by_place : (r : ℕ) (x : TeamId) → slice_get (table ++ given ∷ []) r ≡ Some x → (slice_get table r ≡ Some x) ⊎ ((r ≡ length table) × (given ≡ x)) → (w : ℕ) × (slice_get ws w ≡ Some x) × (value_of values (atom_of (length ws) r w) ≡ true)
+    by_place r x e (inl h) = read.atoms r x h
+    by_place r x e (inr h) =
+        let s = read.size in
+        let here : m ≡ r = omega (arith, h.0) in
+        rw (← here, ← h.1) found

@@ -7,8 +7,8 @@ ghost use Rattle.draw_tables.specs.Tables.{IsLegal, opponents};
 ghost use Rattle.pairing_draw.specs.Encoding.{IsRead, atom_of, lits_of_moves, rules_of};
 
 use crate::NoMemory;
-use crate::encoding::expect_form;
-use draw_tables::{Move, PairTable, Table, teams_of_pot};
+use crate::pots::pot_of;
+use draw_tables::{Move, PairTable, Table};
 use rule_sets::DrawFile;
 use std::alloc::Global;
 use team_files::TeamId;
@@ -29,9 +29,8 @@ pub fn decode(
     ensures extends { IfOk result (λ table. Extends file.now (opponents table) moves.now) }
     ensures atoms { IfOk result (λ table. IsRead values.now (length (runners_up file.now)) (winners file.now) (opponents table)) }
 {
-    expect_form(file);
-    let winners = teams_of_pot(alloc, file, 1)?;
-    let runners = teams_of_pot(alloc, file, 2)?;
+    let winners = pot_of(alloc, file, 1)?;
+    let runners = pot_of(alloc, file, 2)?;
     let given = read_rows(alloc, values, runners.len(), &winners)?;
     Ok(Table::Pairs(PairTable::new(given)))
 }

@@ -1,16 +1,16 @@
 ghost use Rattle.std.specs.Prelude.{◌≡◌, ◌+◌, ◌*◌, ◌≤◌, ◌<◌, ◌^◌, ◌++◌, length, map, IfOk, OnOk};
 ghost use Rattle.std.specs.List.{range_with_len, enumerate_from, flat_map};
-ghost use Rattle.rule_sets.specs.Files.{IsWellFormed as IsWellFormedFile};
-ghost use Rattle.rule_sets.specs.Forms.{HasForm};
 ghost use Rattle.count_core.specs.Problems.{IsWellFormed};
 ghost use Rattle.draw_tables.specs.Pots.{AreTeamsOf};
-ghost use Rattle.pairing_draw.specs.Encoding.{bans_of, column_rule, never, pair_lit, row_rule, rules_of};
+ghost use Rattle.pairing_draw.specs.Encoding.{bans_of, column_rule, never, pair_lit, row_rule, rules_between, rules_of};
 
 use crate::NoMemory;
 use crate::atoms::pair_lit;
+use crate::correspondence::law_rules_and_questions_are_formed;
+use crate::pots::pot_of;
 use count_core::{CountRule, Lits, Problem};
-use draw_tables::{may_meet, teams_of_pot};
-use rule_sets::{DrawFile, law_files_have_form};
+use draw_tables::may_meet;
+use rule_sets::DrawFile;
 use std::alloc::Global;
 use team_files::TeamId;
 
@@ -22,28 +22,35 @@ use team_files::TeamId;
 pub fn encode(alloc: Global, file: &DrawFile) -> Result<Problem, NoMemory>
     ensures { IfOk result (λ p. p ≡ rules_of file.now) }
 {
-    expect_form(file);
-    let winners = teams_of_pot(alloc, file, 1)?;
-    let runners = teams_of_pot(alloc, file, 2)?;
+    let winners = pot_of(alloc, file, 1)?;
+    let runners = pot_of(alloc, file, 2)?;
+    law_rules_and_questions_are_formed();
+    problem_between(alloc, file, &runners, &winners)
+}
+
+/// The problem of runners-up and winners.
+fn problem_between(
+    alloc: Global,
+    file: &DrawFile,
+    runners: &[TeamId],
+    winners: &[TeamId],
+) -> Result<Problem, NoMemory>
+    requires few_runners { length runners.now ≤ 40 }
+    requires few_winners { length winners.now ≤ 40 }
+    requires runners { AreTeamsOf file.now runners.now }
+    requires winners { AreTeamsOf file.now winners.now }
+    requires formed { IsWellFormed (record { atoms = length runners.now * length winners.now; rules = rules_between file.now runners.now winners.now }) }
+    ensures { IfOk result (λ p. p ≡ record { atoms = length runners.now * length winners.now; rules = rules_between file.now runners.now winners.now }) }
+{
     let mut rules = Vec::new(alloc);
     add_rows(alloc, &mut rules, runners.len(), winners.len())?;
     add_columns(alloc, &mut rules, runners.len(), winners.len())?;
-    add_bans(alloc, &mut rules, file, &runners, &winners)?;
-    problem_of(alloc, runners.len() as u32 * winners.len() as u32, rules)
-}
-
-/// What the type of a file says of its form. Does nothing.
-pub(crate) fn expect_form(file: &DrawFile)
-    ensures formed { IsWellFormedFile file.now }
-    ensures form { HasForm file.now }
-{
-    file.kind();
-    law_files_have_form();
+    add_bans(alloc, &mut rules, file, runners, winners)?;
+    problem_of(alloc, (runners.len() * winners.len()) as u32, rules)
 }
 
 /// The problem of rules that are well formed. The only error is want of memory.
 fn problem_of(alloc: Global, atoms: u32, rules: Vec<CountRule>) -> Result<Problem, NoMemory>
-    requires few { length rules.items < 2 ^ 32 }
     requires formed { IsWellFormed (record { atoms = atoms; rules = rules.items }) }
     ensures { IfOk result (λ p. p ≡ record { atoms = atoms; rules = rules.items }) }
 {
@@ -54,7 +61,6 @@ fn problem_of(alloc: Global, atoms: u32, rules: Vec<CountRule>) -> Result<Proble
 }
 
 /// Adds for each runner-up the rule that it gets one winner.
-#[tactic(auto, using(crate::proofs::Numbers::numbers_more))]
 fn add_rows(
     alloc: Global,
     rules: &mut Vec<CountRule>,
@@ -90,7 +96,6 @@ fn row_rule(alloc: Global, winners: usize, runner: usize) -> Result<CountRule, N
 }
 
 /// Adds for each winner the rule that it is given to one runner-up.
-#[tactic(auto, using(crate::proofs::Numbers::numbers_more))]
 fn add_columns(
     alloc: Global,
     rules: &mut Vec<CountRule>,

@@ -10,6 +10,7 @@ mod grid;
 mod laws;
 mod literals;
 mod plain;
+mod pots;
 mod search;
 
 pub use correspondence::{

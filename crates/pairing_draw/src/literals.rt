@@ -5,9 +5,9 @@ ghost use Rattle.pairing_draw.specs.Encoding.{lits_of_moves, place_of, rules_of}
 
 use crate::NoMemory;
 use crate::atoms::pair_lit;
-use crate::encoding::expect_form;
+use crate::pots::pot_of;
 use count_core::Lit;
-use draw_tables::{Move, teams_of_pot};
+use draw_tables::Move;
 use rule_sets::DrawFile;
 use std::alloc::Global;
 use team_files::TeamId;
@@ -20,9 +20,8 @@ pub fn lits_of(alloc: Global, file: &DrawFile, moves: &[Move]) -> Result<Vec<Lit
     ensures within { IfOk result (λ lits. are_within (rules_of file.now).atoms lits.items ≡ true) }
     ensures distinct { IfOk result (λ lits. repeats lits.items ≡ false) }
 {
-    expect_form(file);
-    let winners = teams_of_pot(alloc, file, 1)?;
-    let runners = teams_of_pot(alloc, file, 2)?;
+    let winners = pot_of(alloc, file, 1)?;
+    let runners = pot_of(alloc, file, 2)?;
     let mut lits = Vec::new(alloc);
     for step in moves {
         if let Move::Paired(runner, winner) = *step {
