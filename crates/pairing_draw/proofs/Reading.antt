@@ -1,6 +1,5 @@
 -- A table that is read off values that satisfy the rules is legal and extends the moves.
-use Rattle.std.proofs.Common.{◌≡◌, ℕ, zero, suc, ◌+◌, ◌*◌, ◌<◌, ◌≤◌, Bool, true, false, cond, not, List, [], ◌∷◌, ◌++◌, length, map, Some, slice_get, refl, sym, ap, ◌∙◌, arith, ◌⊎◌, inl, inr, length-append}
-use Rattle.std.specs.Prelude.{count_by}
+use Rattle.std.proofs.Common.{◌≡◌, ℕ, zero, suc, ◌+◌, ◌<◌, Bool, true, false, cond, not, List, [], ◌∷◌, ◌++◌, length, map, Some, slice_get, refl, sym, ap, ◌∙◌, arith, ◌⊎◌, inl, inr, length-append}
 use Rattle.std.specs.List.{range_with_len, enumerate_from, flat_map, AllByRecursion as Each}
 use Rattle.team_files.specs.declared.team_id.TeamId.{TeamId}
 use Rattle.rule_sets.specs.Files.{DrawFile}
@@ -138,9 +137,9 @@ list_of {A} P (suc m) h =
 pub some_read : (values : List Bool) (m : ℕ) (ws : List TeamId) → ((r : ℕ) → r < m → (w : ℕ) × (w < length ws) × (value_of values (atom_of (length ws) r w) ≡ true)) → (table : List TeamId) × IsRead values m ws table
 some_read values m ws h =
     let made = list_of (λ r given. (w : ℕ) × (slice_get ws w ≡ Some given) × (value_of values (atom_of (length ws) r w) ≡ true)) m (λ r lt.
-      let w = h r lt in
-      let given = entry ws w.0 w.1 in
-      (given.0, (w.0, given.1, w.2)))
+    let w = h r lt in
+    let given = entry ws w.0 w.1 in
+    (given.0, (w.0, given.1, w.2)))
     in (made.0, record { size = made.1; atoms = made.2 })
 
 pub values_complete : (file : DrawFile) (ms : List Move) (values : List Bool) → IsState file ms → Meets file ms values → IsCompletable file ms

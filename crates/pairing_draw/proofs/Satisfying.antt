@@ -1,7 +1,7 @@
 -- The values of a legal table satisfy the rules of the file and the literals of the moves.
-use Rattle.std.proofs.Common.{◌≡◌, ℕ, zero, suc, ◌+◌, ◌*◌, ◌<◌, ◌≤◌, Bool, true, false, cond, not, List, [], ◌∷◌, ◌++◌, length, map, Some, slice_get, ◌⊎◌, inl, inr, refl, sym, ap, ◌∙◌, arith}
-use Rattle.std.specs.Prelude.{◌==◌, count_by, slice_index_or}
-use Rattle.std.specs.List.{range_with_len, enumerate_from, flat_map, AllByRecursion as Each}
+use Rattle.std.proofs.Common.{◌≡◌, ℕ, ◌+◌, ◌<◌, Bool, true, false, cond, not, List, [], ◌∷◌, ◌++◌, length, map, Some, slice_get, ◌⊎◌, inl, inr, refl, sym, ap, ◌∙◌, arith}
+use Rattle.std.specs.Prelude.{◌==◌}
+use Rattle.std.specs.List.{range_with_len, enumerate_from, flat_map}
 use Rattle.std.proofs.lemmas.List.{length-map}
 use Rattle.std.proofs.lemmas.Option.{get_or_from_slice_get}
 use Rattle.team_files.specs.declared.team_id.TeamId.{TeamId}
@@ -19,7 +19,7 @@ use Rattle.pairing_draw.specs.Correspondence.{Meets}
 use Rattle.pairing_draw.proofs.Distinct.{pot_once, pot_team}
 use Rattle.pairing_draw.proofs.Numbers.{OneBelow, one_below, each_below}
 use Rattle.pairing_draw.proofs.Pieces.{each_append, each_of_places, each_joined, get_joined, place_found}
-use Rattle.pairing_draw.proofs.Tables.{entry, within, map_at, same_entry, same_id, equal, is_equal, may_meet_by}
+use Rattle.pairing_draw.proofs.Tables.{entry, within, map_at, same_id, equal, is_equal, may_meet_by}
 
 -- a rule that one of the literals is true
 pub one_satisfies : (values : List Bool) (lit : ℕ → Lit) (n : ℕ) → OneBelow (makes_true values) lit n → SatisfiesRule values (exactly_one (map lit (range_with_len 0 n)))

@@ -1,5 +1,5 @@
 -- The pairs of a state: a runner-up and a winner of the file, and no winner twice.
-use Rattle.std.proofs.Common.{◌≡◌, ℕ, zero, suc, ◌+◌, ◌*◌, ◌<◌, Bool, true, false, cond, not, List, [], ◌∷◌, ◌++◌, length, map, Option, Some, None, slice_get, ◌⊎◌, inl, inr, refl, sym, ap, ◌∙◌, arith, subst}
+use Rattle.std.proofs.Common.{◌≡◌, ℕ, zero, suc, ◌+◌, ◌*◌, ◌<◌, Bool, true, false, cond, not, List, [], ◌∷◌, ◌++◌, length, map, Option, Some, None, slice_get, ◌⊎◌, inl, inr, refl, sym, ap, ◌∙◌, subst}
 use Rattle.std.specs.Prelude.{filter, ◌==◌, ◌||◌}
 use Rattle.std.specs.List.{list_any, AllByRecursion as Each}
 use Rattle.std.specs.Option.{option_or}
@@ -12,10 +12,8 @@ use Rattle.draw_tables.specs.declared.moves.Move.{Move}
 use Rattle.draw_tables.specs.declared.moves.Move.TheVariants.{Drawn, Paired}
 use Rattle.draw_tables.specs.declared.moves.Choice.{Choice}
 use Rattle.draw_tables.specs.declared.moves.Choice.TheVariants.{Team}
-use Rattle.draw_tables.specs.declared.moves.Phase.{Phase}
-use Rattle.draw_tables.specs.declared.moves.Phase.TheVariants.{Runner, Opponent, Complete}
 use Rattle.draw_tables.specs.Pots.{winners, runners_up, IsAmong}
-use Rattle.draw_tables.specs.States.{last_drawn, drawn_team, waiting, has_opponent, undrawn, unpaired, is_drawn, is_paired, pairs_winner, phase_of, phase_with, candidate_teams_in, move_of, IsCandidateMove, AreMovesAfter, IsState}
+use Rattle.draw_tables.specs.States.{last_drawn, drawn_team, waiting, has_opponent, undrawn, is_drawn, is_paired, pairs_winner, phase_of, phase_with, candidate_teams_in, move_of, IsCandidateMove, AreMovesAfter, IsState}
 use Rattle.team_files.specs.Members.{where_true}
 use Rattle.std.specs.Prelude.{option_and_then}
 use Rattle.pairing_draw.specs.Encoding.{pair_lit, place_of, lits_of_moves}
@@ -206,10 +204,10 @@ module _ (file : DrawFile) where
       by_cases (inl is) e rest = cc
       by_cases (inr isnt) e rest =
           let differ = off ((place_of s (runners_up file) * (length (winners file)) + place_of v (winners file)) == (place_of r (runners_up file) * (length (winners file)) + place_of w (winners file))) (λ q.
-              let same = same_atom (length (winners file)) (place_of s (runners_up file)) (place_of r (runners_up file)) (place_of v (winners file)) (place_of w (winners file)) (place_within v (winners file) h.0.1) (place_within w (winners file) at) (is_equal _ _ q) in
-              let teams = same_place v w (winners file) h.0.1 at same.1 in
-              let t = equal v.0 w.0 (ap (λ x. x.0) teams) in
-              cc) in
+          let same = same_atom (length (winners file)) (place_of s (runners_up file)) (place_of r (runners_up file)) (place_of v (winners file)) (place_of w (winners file)) (place_within v (winners file) h.0.1) (place_within w (winners file) at) (is_equal _ _ q) in
+          let teams = same_place v w (winners file) h.0.1 at same.1 in
+          let t = equal v.0 w.0 (ap (λ x. x.0) teams) in
+          cc) in
           rw differ (rest (rw isnt at e))
 
   pub lits_distinct : (ms : List Move) → Each (IsKnown file) ms → Apart ms → repeats (lits_of_moves file ms) ≡ false

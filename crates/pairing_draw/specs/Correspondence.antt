@@ -1,6 +1,5 @@
 -- Legal tables and assignments correspond.
 use Rattle.std.specs.Prelude.{◌≡◌, ◌↔◌, List, Bool, true, false}
-use Rattle.std.specs.List.{AllByRecursion}
 use Rattle.team_files.specs.declared.team_id.TeamId.{TeamId}
 use Rattle.rule_sets.specs.Files.{DrawFile, IsWellFormed}
 use Rattle.count_core.specs.Problems.{repeats, are_within, IsWellFormed as IsWellFormedProblem}

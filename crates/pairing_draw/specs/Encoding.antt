@@ -1,7 +1,7 @@
 -- A pairing as a count problem (this project's own numbering). Runners-up and winners are counted
 -- from 0, each in the file order of their pot. With n winners, the atom of runner-up r and winner w
 -- is r * n + w: it is true where the table gives that runner-up that winner.
-use Rattle.std.specs.Prelude.{◌≡◌, ℕ, ◌+◌, ◌*◌, ◌==◌, Bool, true, false, not, List, [], ◌∷◌, ◌++◌, length, map, filter, Option, Some, None, slice_get}
+use Rattle.std.specs.Prelude.{◌≡◌, ℕ, ◌+◌, ◌*◌, ◌==◌, Bool, true, not, List, [], ◌∷◌, ◌++◌, length, map, filter, Option, Some, None, slice_get}
 use Rattle.std.specs.List.{filter_map, flat_map, enumerate_from, range_with_len, position_or_len}
 use Rattle.team_files.specs.declared.team_id.TeamId.{TeamId}
 use Rattle.rule_sets.specs.Files.{DrawFile}

@@ -181,12 +181,7 @@ fn add_bans_of(
 }
 
 /// The rule that a runner-up does not get a winner.
-fn never(
-    alloc: Global,
-    winners: usize,
-    runner: usize,
-    winner: usize,
-) -> Result<CountRule, NoMemory>
+fn never(alloc: Global, winners: usize, runner: usize, winner: usize) -> Result<CountRule, NoMemory>
     requires winners { winners ≤ 40 }
     requires runner { runner ≤ 40 }
     requires winner { winner ≤ 40 }

@@ -1,4 +1,3 @@
-use Rattle.std.proofs.Common.{refl}
 use Rattle.pairing_draw.proofs.Formed.{few_teams}
 use Rattle.pairing_draw.proofs.pots.pot_of.Goals as goal
 
