@@ -6,3 +6,9 @@ pub mod Whole
 pub mod Picking
 pub mod Drawing
 pub mod Decide
+pub mod Numbers
+pub mod Pieces
+pub mod Formed
+pub mod StateMoves
+pub mod Satisfying
+pub mod Reading

@@ -1,2 +1,4 @@
 pub mod Search
 pub mod Laws
+pub mod Encoding
+pub mod Correspondence

@@ -1,0 +1,13 @@
+use Rattle.std.proofs.Common.{◌≡◌, length, rules}
+use Rattle.draw_tables.specs.Pots.{runners_up}
+use Rattle.pairing_draw.proofs.Reading.{row_true, legal, extends}
+use Rattle.pairing_draw.proofs.decoding.decode.Goals as goal
+
+pub read_rows-requires-clause-each : goal.read_rows-requires-clause-each
+read_rows-requires-clause-each c = λ r lt. rw (c.deref.ensures.value, c.in_ok-winners.ensures.teams) (row_true c.args.file.now c.args.values.now c.requires.rules r (let size : c.len.result ≡ length (runners_up c.args.file.now) = rw (← c.in_ok-runners.ensures.teams) (search rules) in rw (← size) lt))
+
+pub returns-clause-legal : goal.returns-clause-legal
+returns-clause-legal c = legal c.args.file.now c.args.values.now c.requires.rules c.new.result.winners (search rules)
+
+pub returns-clause-extends : goal.returns-clause-extends
+returns-clause-extends c = extends c.args.file.now c.args.values.now c.requires.rules c.new.result.winners (search rules) c.args.moves.now c.requires.state c.requires.moves

@@ -1,0 +1,40 @@
+-- Legal tables and assignments correspond.
+use Rattle.std.specs.Prelude.{◌≡◌, ◌↔◌, List, Bool, true, false}
+use Rattle.team_files.specs.declared.team_id.TeamId.{TeamId}
+use Rattle.rule_sets.specs.Files.{DrawFile, IsWellFormed}
+use Rattle.count_core.specs.Problems.{repeats, are_within, IsWellFormed as IsWellFormedProblem}
+use Rattle.count_core.specs.Assignments.{Satisfies, SatisfiesQuestion}
+use Rattle.draw_tables.specs.declared.moves.Move.{Move}
+use Rattle.draw_tables.specs.States.{IsState}
+use Rattle.draw_tables.specs.Pairings.{IsLegalPairing}
+use Rattle.draw_tables.specs.Offers.{Extends, IsCompletable}
+use Rattle.pairing_draw.specs.Encoding.{rules_of, values_of, lits_of_moves}
+
+-- The assignment satisfies the rules of the file and makes the literals of the moves true.
+pub record Meets (file : DrawFile) (ms : List Move) (values : List Bool) : Type 0 where
+  pub rules : Satisfies values (rules_of file)
+  pub moves : SatisfiesQuestion values (lits_of_moves file ms)
+
+-- The values of a legal table that extends the moves meet the rules and the moves.
+abbrev pub TablesSatisfy : Type 0
+TablesSatisfy = (file : DrawFile) (ms : List Move) (table : List TeamId)
+    → IsLegalPairing file table → Extends file table ms → Meets file ms (values_of file table)
+
+-- Where some assignment meets the rules and a state's moves, some legal table extends the moves.
+abbrev pub ValuesComplete : Type 0
+ValuesComplete = (file : DrawFile) (ms : List Move) (values : List Bool)
+    → IsState file ms → Meets file ms values → IsCompletable file ms
+
+-- A state is completable exactly where some assignment meets the rules and its moves.
+abbrev pub CompletableWhereSatisfied : Type 0
+CompletableWhereSatisfied = (file : DrawFile) (ms : List Move)
+    → IsState file ms → (IsCompletable file ms ↔ ((values : List Bool) × Meets file ms values))
+
+-- The rules of a file make a problem.
+abbrev pub RulesAreFormed : Type 0
+RulesAreFormed = (file : DrawFile) → IsWellFormed file → IsWellFormedProblem (rules_of file)
+
+-- The literals of a state's moves are over different atoms of the problem.
+abbrev pub MovesAreQuestions : Type 0
+MovesAreQuestions = (file : DrawFile) (ms : List Move) → IsState file ms
+    → (are_within (rules_of file).atoms (lits_of_moves file ms) ≡ true) × (repeats (lits_of_moves file ms) ≡ false)

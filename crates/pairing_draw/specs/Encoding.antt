@@ -1,0 +1,86 @@
+-- A pairing as a count problem (this project's own numbering). Runners-up and winners are counted
+-- from 0, each in the file order of their pot. With n winners, the atom of runner-up r and winner w
+-- is r * n + w: it is true where the table gives that runner-up that winner.
+use Rattle.std.specs.Prelude.{◌≡◌, ℕ, ◌+◌, ◌*◌, ◌==◌, Bool, true, not, List, [], ◌∷◌, ◌++◌, length, map, filter, Option, Some, None, slice_get}
+use Rattle.std.specs.List.{filter_map, flat_map, enumerate_from, range_with_len, position_or_len}
+use Rattle.team_files.specs.declared.team_id.TeamId.{TeamId}
+use Rattle.rule_sets.specs.Files.{DrawFile}
+use Rattle.count_core.specs.declared.lit.Lit.{Lit}
+use Rattle.count_core.specs.declared.count_rule.CountRule.{CountRule}
+use Rattle.count_core.specs.Problems.{Problem}
+use Rattle.count_core.specs.Assignments.{value_of}
+use Rattle.draw_tables.specs.declared.moves.Move.{Move}
+use Rattle.draw_tables.specs.declared.moves.Move.TheVariants.{Drawn, Paired}
+use Rattle.draw_tables.specs.Pots.{winners, runners_up}
+use Rattle.draw_tables.specs.Pairings.{may_meet}
+
+-- ---- atoms and literals
+
+abbrev pub atom_of : ℕ → ℕ → ℕ → ℕ
+atom_of n r w = r * n + w
+
+-- that runner-up r gets winner w
+abbrev pub pair_lit : ℕ → ℕ → ℕ → Lit
+pair_lit n r w = record { atom = record { 0 = atom_of n r w }; positive = true }
+
+-- ---- rules, where there are m runners-up and n winners
+
+abbrev pub exactly_one : List Lit → CountRule
+exactly_one lits = record { lits = lits; lo = 1; hi = 1 }
+
+abbrev pub never : Lit → CountRule
+never l = record { lits = l ∷ []; lo = 0; hi = 0 }
+
+-- 1. the runner-up gets one winner
+abbrev pub row_rule : ℕ → ℕ → CountRule
+row_rule n r = exactly_one (map (λ w. pair_lit n r w) (range_with_len 0 n))
+
+-- 2. the winner is given to one runner-up
+abbrev pub column_rule : ℕ → ℕ → ℕ → CountRule
+column_rule m n w = exactly_one (map (λ r. pair_lit n r w) (range_with_len 0 m))
+
+-- 3. the runner-up gets none of the winners that it may not meet: those of its first-round group,
+-- those with a common tag and those with which it is a forbidden pair
+abbrev pub bans_of : DrawFile → List TeamId → ℕ × TeamId → List CountRule
+bans_of file ws r = map (λ w. never (pair_lit (length ws) r.0 w.0)) (filter (λ w. not (may_meet file r.1 w.1)) (enumerate_from 0 ws))
+
+-- the rules of each kind, in this order
+abbrev pub rules_between : DrawFile → List TeamId → List TeamId → List CountRule
+rules_between file rs ws =
+    map (row_rule (length ws)) (range_with_len 0 (length rs))
+    ++ (map (column_rule (length rs) (length ws)) (range_with_len 0 (length ws))
+    ++ flat_map (bans_of file ws) (enumerate_from 0 rs))
+
+-- The count problem of a pairing file.
+abbrev pub rules_of : DrawFile → Problem
+rules_of file = record {
+  atoms = length (runners_up file) * length (winners file);
+  rules = rules_between file (runners_up file) (winners file);
+}
+
+-- ---- assignments of tables
+
+-- The values of a table, which lists the winners given, runner-up by runner-up.
+abbrev pub values_of : DrawFile → List TeamId → List Bool
+values_of file table = flat_map (λ given. map (λ w. w.0 == given.0) (winners file)) table
+
+-- The table gives each of m runners-up a winner whose atom is true.
+pub record IsRead (values : List Bool) (m : ℕ) (ws : List TeamId) (table : List TeamId) : Type 0 where
+  pub size : length table ≡ m
+  pub atoms : (r : ℕ) (given : TeamId) → slice_get table r ≡ Some given
+      → (w : ℕ) × (slice_get ws w ≡ Some given) × (value_of values (atom_of (length ws) r w) ≡ true)
+
+-- ---- literals of moves
+
+-- the place of the team in the list, counted from 0
+abbrev pub place_of : TeamId → List TeamId → ℕ
+place_of t teams = position_or_len (λ x. x.0 == t.0) teams
+
+-- a drawn ball says nothing of the table
+abbrev pub lit_of_move : DrawFile → Move → Option Lit
+lit_of_move file (Drawn t) = None
+lit_of_move file (Paired r w) = Some (pair_lit (length (winners file)) (place_of r (runners_up file)) (place_of w (winners file)))
+
+-- The literals of moves: one for each pair, in order.
+abbrev pub lits_of_moves : DrawFile → List Move → List Lit
+lits_of_moves file ms = filter_map (lit_of_move file) ms
