@@ -1,5 +1,5 @@
 -- Forbidden pairs that name no two teams.
-use Rattle.std.specs.Prelude.{◌≡◌, ℕ, ◌<◌, ◌⊎◌, ◌↔◌, List, slice_get, Option, Some, None, Result, Err}
+use Rattle.std.specs.Prelude.{◌≡◌, ℕ, ◌<◌, ◌⊎◌, ◌↔◌, List, slice_get, Some, None, Err}
 use Rattle.team_files.specs.declared.fault.FileFault.{FileFault}
 use Rattle.team_files.specs.declared.head_pair.HeadPair.{HeadPair}
 use Rattle.team_files.specs.declared.team.Team.{Team}

@@ -1,11 +1,11 @@
 -- What each step of reading a head says of the value: its part of the head, or that the fault of its number holds.
-use Rattle.std.proofs.Common.{◌≡◌, ℕ, zero, suc, ◌+◌, Bool, true, false, not, cond, List, [], ◌∷◌, length, map, refl, sym, ap, ◌∙◌, Option, Some, None, Result, Ok, Err, arith}
+use Rattle.std.proofs.Common.{◌≡◌, ℕ, suc, ◌+◌, Bool, true, false, not, cond, List, [], ◌∷◌, length, map, refl, ap, ◌∙◌, Option, Some, None, Result, Ok, Err, arith}
 use Rattle.std.specs.Prelude.{◌==◌, nat_lt, codes, if◌then◌else◌, position, count_by, is_none, unwrap_or, option_map, option_and_then}
 use Rattle.std.specs.List.{list_all, position_or_len, fold}
 use Rattle.std.specs.Option.{option_or}
 use Rattle.std.proofs.lemmas.Bool.Decides.{nat_tests}
 use Rattle.serde_json.specs.Data.{Data}
-use Rattle.serde_json.specs.Find.{get, as_str}
+use Rattle.serde_json.specs.Find.{get}
 use Rattle.team_files.specs.declared.fault.Field.{Field}
 use Rattle.team_files.specs.declared.fault.FileFault.{FileFault}
 use Rattle.team_files.specs.declared.fields.TeamFields.{TeamFields}
@@ -14,8 +14,8 @@ use Rattle.team_files.specs.declared.head_pair.HeadPair.{HeadPair}
 use Rattle.team_files.specs.declared.team.Team.{Team}
 use Rattle.team_files.specs.Characters.{is_code}
 use Rattle.team_files.specs.Answers.{after}
-use Rattle.team_files.specs.Members.{lacks, is_object, list_of, text_in, list_in, letter_of, tags_in, where_true}
-use Rattle.team_files.specs.Heads.{or_wrong, name_in, pot_in, team_fields, all_team_fields, objects_in, pair_of_texts, pairs_of_texts, pairs_in, head_fields, name_of, team_of, teams_from, pot_size}
+use Rattle.team_files.specs.Members.{is_object, list_of, text_in, list_in, letter_of, tags_in, where_true}
+use Rattle.team_files.specs.Heads.{or_wrong, name_in, pot_in, team_fields, all_team_fields, objects_in, pair_of_texts, pairs_of_texts, pairs_in, head_fields, name_of, teams_from, pot_size}
 use Rattle.team_files.specs.Codes.{codes_of}
 use Rattle.team_files.specs.Faults.{team_values, pair_values, code_at, pot_at, codes_in, pots_in, wrong_if, wrong_in_team, wrong_in_teams, wrong_fault}
 

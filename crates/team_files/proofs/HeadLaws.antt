@@ -1,13 +1,10 @@
 -- What holds of a head that was read: no fault of a head holds of it.
-use Rattle.std.proofs.Common.{◌≡◌, ℕ, ◌≤◌, Bool, true, false, List, length, Option, Some, None, Result, Ok, Err, refl, arith}
-use Rattle.std.specs.Prelude.{if◌then◌else◌, nat_lt}
+use Rattle.std.proofs.Common.{◌≡◌, ◌≤◌, List, length, Option, Some, None, Result, Ok, Err, refl, arith}
 use Rattle.std.proofs.lemmas.Bool.Decides.{nat_tests}
 use Rattle.serde_json.specs.Data.{Data}
 use Rattle.team_files.specs.declared.fault.FileFault.{FileFault}
-use Rattle.team_files.specs.declared.fault.Field.{Field}
 use Rattle.team_files.specs.declared.fields.HeadFields.{HeadFields}
 use Rattle.team_files.specs.declared.team.Team.{Team}
-use Rattle.team_files.specs.declared.kind.Kind.{Kind}
 use Rattle.team_files.specs.Answers.{after, unless}
 use Rattle.team_files.specs.Heads.{Head, pairing_head, head_of, IsReadHead, object_fault, kind_fault, missing_fault, head_fields, too_many_fault, teams_from, same_code_fault, pot_size_fault}
 

@@ -1,5 +1,5 @@
 -- Codes in file order: which team has a code, and which code stands twice.
-use Rattle.std.specs.Prelude.{◌≡◌, ℕ, ◌<◌, ◌↔◌, List, map, slice_get, Option, Some, None}
+use Rattle.std.specs.Prelude.{◌≡◌, ℕ, ◌<◌, ◌↔◌, List, map, slice_get, Some, None}
 use Rattle.team_files.specs.declared.fault.FileFault.{FileFault}
 use Rattle.team_files.specs.declared.team.Team.{Team}
 use Rattle.team_files.specs.declared.team_id.TeamId.{TeamId}

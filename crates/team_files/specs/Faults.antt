@@ -1,5 +1,5 @@
 -- The table of a head's faults: when each holds of a value, and which is told first (this project's own).
-use Rattle.std.specs.Prelude.{◌≡◌, ℕ, ◌≤◌, ◌↔◌, ◌⊎◌, ◌==◌, ◌||◌, not, bytes_eq, nat_lt, codes, if◌then◌else◌, Bool, true, false, List, [], ◌∷◌, map, length, position, count_by, Option, Some, None, is_none, unwrap_or, option_and_then, Result, Ok, Err}
+use Rattle.std.specs.Prelude.{◌≡◌, ℕ, ◌≤◌, ◌↔◌, ◌==◌, ◌||◌, not, bytes_eq, nat_lt, codes, if◌then◌else◌, Bool, true, false, List, [], ◌∷◌, map, length, position, count_by, Option, Some, None, is_none, unwrap_or, option_and_then, Ok, Err}
 use Rattle.std.specs.Option.{option_or}
 use Rattle.serde_json.specs.Data.{Data}
 use Rattle.team_files.specs.declared.fault.Field.{Field}

@@ -1,5 +1,4 @@
-use Rattle.std.proofs.Common.{◌≡◌, ◌∙◌, sym, arith, ap, true, false, not, Some}
-use Rattle.std.proofs.lemmas.Grind.{common_steps}
+use Rattle.std.proofs.Common.{◌∙◌, sym}
 use Rattle.team_files.proofs.Codes.{repeated, added, goes_on}
 use Rattle.team_files.proofs.teams.codes_of.Goals as goal
 
