@@ -1,5 +1,5 @@
 use Rattle.std.proofs.Common.{◌≡◌, Bool, true, false, not, ap, sym, ◌∙◌}
-use Rattle.draw_tables.specs.Pots.{IsAmong, runners_up}
+use Rattle.draw_tables.specs.Pots.{runners_up}
 use Rattle.draw_tables.specs.States.{is_drawn}
 use Rattle.draw_tables.proofs.Among.{kept_among, among_kept}
 use Rattle.draw_tables.proofs.candidacy.is_undrawn.Goals as goal

@@ -1,5 +1,5 @@
 use Rattle.std.proofs.Common.{◌≡◌, Bool, true, false, not, ap, sym, ◌∙◌}
-use Rattle.draw_tables.specs.Pots.{IsAmong, winners}
+use Rattle.draw_tables.specs.Pots.{winners}
 use Rattle.draw_tables.specs.States.{is_paired}
 use Rattle.draw_tables.proofs.Among.{kept_among, among_kept}
 use Rattle.draw_tables.proofs.candidacy.is_unpaired.Goals as goal
