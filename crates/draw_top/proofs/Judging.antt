@@ -1,16 +1,14 @@
 -- An input is approved of, objected to or refused, and one of them only.
-use Rattle.std.proofs.Common.{◌≡◌, ℕ, List, [], ◌∷◌, inl, inr, sym, ◌∙◌, subst, ◌⊎◌, Ok}
-use Rattle.team_files.specs.Heads.{IsReadHead}
-use Rattle.rule_sets.specs.Files.{DrawFile, IsFileOf, IsWellFormed, file_of}
+use Rattle.std.proofs.Common.{◌≡◌, ℕ, List, [], ◌∷◌, inl, inr, sym, ◌∙◌, subst, ◌⊎◌}
+use Rattle.rule_sets.specs.Files.{DrawFile, IsFileOf, IsWellFormed}
 use Rattle.draw_tables.specs.declared.table.Table.{Table}
 use Rattle.draw_tables.specs.Tables.{IsLegal}
 use Rattle.draw_tables.specs.TableTexts.{IsTextOf, OneTableOfText}
 use Rattle.draw_tables.specs.Verdicts.{NoneBrokenWhereLegal}
 use Rattle.draw_lines.specs.Inputs.{head_of, command_lines}
-use Rattle.draw_top.specs.Follow.{HasFile, IsRefusalOf}
+use Rattle.draw_top.specs.Follow.{HasFile}
 use Rattle.draw_top.specs.Check.{AreTableLine, AreLegal, TellsBroken, TellsNoTable, IsLegalInput, IsObjectionTo}
 use Rattle.draw_top.proofs.Function.{files_once}
-use Rattle.draw_top.proofs.Gains.{not_refused}
 
 formed : (bytes : List ℕ) (file : DrawFile) → IsFileOf bytes file → IsWellFormed file
 formed bytes file h = (h.0, (h.1.0, h.1.2), h.2)

@@ -8,7 +8,7 @@ use Rattle.draw_tables.specs.declared.moves.Move.{Move}
 use Rattle.draw_tables.specs.declared.moves.Choice.{Choice}
 use Rattle.draw_tables.specs.declared.moves.Phase.{Phase}
 use Rattle.draw_tables.specs.Pots.{AreTeamsOf, IsAmong}
-use Rattle.draw_tables.specs.States.{phase_of, phase_with, waiting, last_drawn, drawn_team, has_opponent, undrawn, move_of}
+use Rattle.draw_tables.specs.States.{phase_of, phase_with, last_drawn, has_opponent, undrawn, move_of}
 use Rattle.draw_state.specs.Commands.{next_line}
 use Rattle.draw_lines.specs.Texts.{NamesTeam, NamesTeamsInMoves, NamesTeamsInChoices, NamesTeamsInPhase, NamesTeamsInNext}
 

@@ -1,8 +1,8 @@
 -- What `follow` writes: the answer text of its input, or the line of the head's first fault.
-use Rattle.std.specs.Prelude.{◌≡◌, ℕ, ◌<◌, ◌≤◌, List, [], ◌∷◌, length, codes, Option, Some, None, map, string_bytes, String, IfSome, IsSomeAnd, ◌⊎◌}
+use Rattle.std.specs.Prelude.{◌≡◌, ℕ, ◌<◌, ◌≤◌, List, [], ◌∷◌, length, codes, Option, map, string_bytes, String, IfSome, IsSomeAnd, ◌⊎◌}
 use Rattle.std.specs.declared.alloc.Global.{Global}
-use Rattle.std.specs.Io.KnownBytes.{Appends, Keeps, IsAtEnd}
-use Rattle.draw_ports.specs.Causes.{Rose, AppendsSome}
+use Rattle.std.specs.Io.KnownBytes.{Appends}
+use Rattle.draw_ports.specs.Causes.{AppendsSome}
 use Rattle.team_files.specs.declared.fault.FileFault.{FileFault}
 use Rattle.rule_sets.specs.Files.{DrawFile, IsFileOf, IsFileFault}
 use Rattle.draw_lines.specs.Inputs.{head_of, command_lines}

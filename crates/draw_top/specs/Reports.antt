@@ -1,5 +1,5 @@
 -- What is written for an input of a table.
-use Rattle.std.specs.Prelude.{◌≡◌, ℕ, List, ◌⊎◌}
+use Rattle.std.specs.Prelude.{ℕ, List, ◌⊎◌}
 use Rattle.rule_sets.specs.Files.{DrawFile}
 use Rattle.draw_top.specs.declared.checking.Report.{Report}
 use Rattle.draw_top.specs.declared.checking.Report.TheVariants.{Legal, NotValid, Refused}

@@ -1,4 +1,4 @@
-use Rattle.std.proofs.Common.{◌≡◌, ◌⊎◌, List, ℕ, inl, inr, refl, ◌≤◌, length}
+use Rattle.std.proofs.Common.{◌⊎◌, List, ℕ, inl, inr, ◌≤◌, length}
 use Rattle.draw_top.specs.Follow.{HasFile, IsRefusalOf, input_limit}
 use Rattle.draw_top.specs.Check.{IsLegalInput, IsApprovalOf, IsObjectionTo}
 use Rattle.draw_top.proofs.Gains.{gains, gains_some, told, not_refused}

@@ -1,4 +1,4 @@
-use Rattle.std.proofs.Common.{◌⊎◌, List, ℕ, inl, inr, ◌≤◌, ◌<◌, length, arith}
+use Rattle.std.proofs.Common.{◌⊎◌, inl, inr, ◌≤◌, ◌<◌, length, arith}
 use Rattle.draw_top.specs.Follow.{HasFile, IsAnswerOf, IsRefusalOf, input_limit}
 use Rattle.draw_top.proofs.Gains.{gains, gains_some, told, not_refused, not_answered, not_too_long}
 use Rattle.draw_top.proofs.following.follow.Goals as goal

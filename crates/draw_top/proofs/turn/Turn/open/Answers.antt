@@ -1,4 +1,4 @@
-use Rattle.std.proofs.Common.{◌≡◌, [], map}
+use Rattle.std.proofs.Common.{◌≡◌, map}
 use Rattle.draw_tables.specs.declared.moves.Choice.{Choice}
 use Rattle.draw_top.proofs.Names.{named_choices}
 use Rattle.draw_top.proofs.turn.Turn.open.Goals as goal
