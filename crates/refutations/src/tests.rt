@@ -1,3 +1,5 @@
+ghost use Rattle.std.specs.Prelude.{◌≡◌};
+
 use crate::{Closed, LogFault, NoMemory, ProofLog};
 use count_core::{
     Atom, CountRule, Hint, Lit, Lits, Problem, Question, SharedProblem, Step, are_distinct,
@@ -96,7 +98,9 @@ fn clash(alloc: Global) -> Option<SharedProblem> {
 }
 
 /// What the log answers to the line, where there are few hints.
-fn add_line(alloc: Global, log: &mut ProofLog, line: Line<'_>) -> Result<u32, LogFault> {
+fn add_line(alloc: Global, log: &mut ProofLog, line: Line<'_>) -> Result<u32, LogFault>
+    ensures { log.new.problem ≡ log.old.problem }
+{
     let (clause, hints) = line;
     if hints.len() > 9 {
         return Err(LogFault::NoMemory);
