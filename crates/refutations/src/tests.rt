@@ -1,3 +1,5 @@
+ghost use Rattle.std.specs.Prelude.{◌≡◌};
+
 use crate::{Closed, LogFault, NoMemory, ProofLog};
 use count_core::{
     Atom, CountRule, Hint, Lit, Lits, Problem, Question, SharedProblem, Step, are_distinct,
@@ -48,21 +50,23 @@ const NO_8: Lit = Lit {
 /// A clause and its hints.
 type Line<'a> = (&'a [Lit], &'a [Hint]);
 
-/// No team of the first pot is in the first group, so the empty clause. The third pot's first team
-/// is not there either, on which nothing rests.
-const STEPS: [Line<'static>; 4] = [
-    (&[NO_0], &[Hint::Rule(8), Hint::Rule(5)]),
-    (&[NO_4], &[Hint::Rule(8), Hint::Rule(4)]),
-    (&[NO_2], &[Hint::Rule(8), Hint::Rule(5)]),
-    (&[], &[Hint::Step(0), Hint::Step(2), Hint::Rule(4)]),
-];
+const NOT_0: Line<'static> = (&[NO_0], &[Hint::Rule(8), Hint::Rule(5)]);
 
-/// What the last of them rests on.
-const CONE: [Line<'static>; 3] = [
-    (&[NO_0], &[Hint::Rule(8), Hint::Rule(5)]),
-    (&[NO_2], &[Hint::Rule(8), Hint::Rule(5)]),
-    (&[], &[Hint::Step(0), Hint::Step(1), Hint::Rule(4)]),
-];
+const NOT_4: Line<'static> = (&[NO_4], &[Hint::Rule(8), Hint::Rule(4)]);
+
+const NOT_2: Line<'static> = (&[NO_2], &[Hint::Rule(8), Hint::Rule(5)]);
+
+const NOTHING: Line<'static> = (&[], &[Hint::Step(0), Hint::Step(2), Hint::Rule(4)]);
+
+/// The first pot has no team in the first group, so the empty clause. The second pot's first team is
+/// not there either, on which nothing rests.
+const STEPS: [Line<'static>; 4] = [NOT_0, NOT_4, NOT_2, NOTHING];
+
+/// The last of them without the spare step.
+const RENUMBERED: Line<'static> = (&[], &[Hint::Step(0), Hint::Step(1), Hint::Rule(4)]);
+
+/// What it rests on.
+const CONE: [Line<'static>; 3] = [NOT_0, NOT_2, RENUMBERED];
 
 fn rules_of(alloc: Global) -> Result<Vec<CountRule>, NoMemory> {
     let mut rules = Vec::new(alloc);
@@ -94,7 +98,9 @@ fn clash(alloc: Global) -> Option<SharedProblem> {
 }
 
 /// What the log answers to the line, where there are few hints.
-fn add_line(alloc: Global, log: &mut ProofLog, line: Line<'_>) -> Result<u32, LogFault> {
+fn add_line(alloc: Global, log: &mut ProofLog, line: Line<'_>) -> Result<u32, LogFault>
+    ensures { log.new.problem ≡ log.old.problem }
+{
     let (clause, hints) = line;
     if hints.len() > 9 {
         return Err(LogFault::NoMemory);
@@ -102,92 +108,73 @@ fn add_line(alloc: Global, log: &mut ProofLog, line: Line<'_>) -> Result<u32, Lo
     log.add(alloc, clause, hints)
 }
 
-/// A log of these steps, or none where one is not accepted.
-fn log_of(alloc: Global, lines: &[Line<'_>]) -> Option<ProofLog> {
+/// A log of the first of `STEPS`, or none where one is not accepted.
+fn log_of(alloc: Global, number: usize) -> Option<ProofLog> {
     let mut log = ProofLog::new(alloc, clash(alloc)?);
-    for line in lines {
+    for line in STEPS.iter().take(number) {
         let _number = add_line(alloc, &mut log, *line).ok()?;
     }
     Some(log)
 }
 
-/// What a log of these steps answers to a further one.
-fn added(alloc: Global, before: &[Line<'_>], line: Line<'_>) -> Option<Result<u32, LogFault>> {
-    let mut log = log_of(alloc, before)?;
-    let answer = add_line(alloc, &mut log, line);
-    if answer.is_err() && log.steps().len() != before.len() {
-        return None;
-    }
-    Some(answer)
-}
+/// After so many of `STEPS`, a line, and its failing hint, or none where it is accepted.
+const CASES: [(u32, Line<'static>, Option<u32>); 17] = [
+    (0, NOT_0, None),
+    (3, NOTHING, None),
+    (0, (&[NO_0], &[Hint::Rule(8), Hint::Rule(4)]), Some(1)),
+    (
+        0,
+        (&[NO_0], &[Hint::Rule(9), Hint::Rule(8), Hint::Rule(5)]),
+        Some(0),
+    ),
+    (0, (&[NO_0], &[Hint::Rule(8)]), Some(1)),
+    (0, (&[NO_0, NO_0], &[Hint::Rule(8), Hint::Rule(5)]), Some(0)),
+    (0, (&[NO_0], &[]), Some(0)),
+    (
+        0,
+        (&[NO_0], &[Hint::Rule(8), Hint::Rule(5), Hint::Rule(4)]),
+        Some(1),
+    ),
+    // An atom out of range, and an atom with its negation.
+    (0, (&[NO_8], &[Hint::Rule(8), Hint::Rule(5)]), Some(0)),
+    (
+        0,
+        (&[NO_0, YES_0], &[Hint::Rule(8), Hint::Rule(5)]),
+        Some(0),
+    ),
+    // A rule that is not there, a later step, the step itself.
+    (
+        0,
+        (&[NO_0], &[Hint::Rule(8), Hint::Rule(4294967295)]),
+        Some(1),
+    ),
+    (1, (&[NO_2], &[Hint::Step(2), Hint::Rule(5)]), Some(0)),
+    (1, (&[NO_2], &[Hint::Rule(8), Hint::Step(1)]), Some(1)),
+    // The empty clause too early: the last hint forces; a step forces once and then no more.
+    (1, (&[], &[Hint::Step(0), Hint::Rule(4)]), Some(2)),
+    (1, (&[], &[Hint::Step(0), Hint::Step(0)]), Some(1)),
+    (1, (&[], &[]), Some(0)),
+    // An accepted step may stand again.
+    (4, NOT_0, None),
+];
 
-fn refused(hint: u32) -> Result<u32, LogFault> {
-    Err(LogFault::NotAccepted { hint })
+/// Whether a log of so many steps answers so to the line: with the number of the step, or with the
+/// failing hint, and then it stays as it is.
+fn answers(alloc: Global, before: u32, line: Line<'_>, fails: Option<u32>) -> Option<bool> {
+    let mut log = log_of(alloc, before as usize)?;
+    let answer = add_line(alloc, &mut log, line);
+    let added = log.steps().len() > before as usize;
+    match fails {
+        None => Some(answer == Ok(before) && added),
+        Some(hint) => Some(answer == Err(LogFault::NotAccepted { hint }) && !added),
+    }
 }
 
 #[test]
 fn adds_accepted_steps(rt: HostRuntime) {
-    let cases: [(&[Line<'_>], Line<'_>, Result<u32, LogFault>); 17] = [
-        (&[], STEPS[0], Ok(0)),
-        (&STEPS[..3], STEPS[3], Ok(3)),
-        (&[], (&[NO_0], &[Hint::Rule(8), Hint::Rule(4)]), refused(1)),
-        (
-            &[],
-            (&[NO_0], &[Hint::Rule(9), Hint::Rule(8), Hint::Rule(5)]),
-            refused(0),
-        ),
-        (&[], (&[NO_0], &[Hint::Rule(8)]), refused(1)),
-        (
-            &[],
-            (&[NO_0, NO_0], &[Hint::Rule(8), Hint::Rule(5)]),
-            refused(0),
-        ),
-        (&[], (&[NO_0], &[]), refused(0)),
-        (
-            &[],
-            (&[NO_0], &[Hint::Rule(8), Hint::Rule(5), Hint::Rule(4)]),
-            refused(1),
-        ),
-        // An atom out of range, and an atom with its negation.
-        (&[], (&[NO_8], &[Hint::Rule(8), Hint::Rule(5)]), refused(0)),
-        (
-            &[],
-            (&[NO_0, YES_0], &[Hint::Rule(8), Hint::Rule(5)]),
-            refused(0),
-        ),
-        // A rule that is not there, a later step, the step itself.
-        (
-            &[],
-            (&[NO_0], &[Hint::Rule(8), Hint::Rule(4294967295)]),
-            refused(1),
-        ),
-        (
-            &STEPS[..1],
-            (&[NO_2], &[Hint::Step(2), Hint::Rule(5)]),
-            refused(0),
-        ),
-        (
-            &STEPS[..1],
-            (&[NO_2], &[Hint::Rule(8), Hint::Step(1)]),
-            refused(1),
-        ),
-        // The empty clause too early: the last hint forces, or a step forces once and then no more.
-        (
-            &STEPS[..1],
-            (&[], &[Hint::Step(0), Hint::Rule(4)]),
-            refused(2),
-        ),
-        (
-            &STEPS[..1],
-            (&[], &[Hint::Step(0), Hint::Step(0)]),
-            refused(1),
-        ),
-        (&STEPS[..1], (&[], &[]), refused(0)),
-        // An accepted step may stand again.
-        (&STEPS, STEPS[0], Ok(4)),
-    ];
-    for (before, line, want) in cases {
-        assert_eq!(rt; added(rt.alloc(), before, line), Some(want), "{line:?}");
+    for (before, line, fails) in CASES {
+        let answer = answers(rt.alloc(), before, line, fails);
+        assert_eq!(rt; answer, Some(true), "{before} steps, then {line:?}");
     }
 }
 
@@ -205,7 +192,7 @@ fn shared<T: Send + Sync>(value: T) -> T {
 
 /// The clause's length and the steps of a copy of the lemma at this step.
 fn lemma_is(alloc: Global, step: u32, clause: &[Lit], lines: &[Line<'_>]) -> Option<bool> {
-    let log = shared(log_of(alloc, &STEPS)?);
+    let log = shared(log_of(alloc, 4)?);
     if step as usize >= log.steps().len() {
         return None;
     }
@@ -238,8 +225,8 @@ fn question_of(alloc: Global, lits: &[Lit]) -> Option<Question> {
 
 /// The question closed by the empty clause.
 fn closed_of(alloc: Global, lits: &[Lit]) -> Option<Closed> {
-    let mut log = log_of(alloc, &STEPS[..3])?;
-    let number = log.add(alloc, &[], STEPS[3].1).ok()?;
+    let mut log = log_of(alloc, 3)?;
+    let number = log.add(alloc, &[], NOTHING.1).ok()?;
     let question = question_of(alloc, lits)?;
     let closed = log.closed(alloc, number, &question).ok()?;
     closed.clone_in(alloc).ok()
@@ -260,7 +247,7 @@ fn closed_questions(rt: HostRuntime) {
 }
 
 fn cone_is(alloc: Global, step: u32, lines: &[Line<'_>]) -> Option<bool> {
-    let log = log_of(alloc, &STEPS)?;
+    let log = log_of(alloc, 4)?;
     if step as usize >= log.steps().len() {
         return None;
     }
@@ -280,15 +267,15 @@ fn joined(alloc: Global) -> Option<(u32, bool)> {
     let problem = clash(alloc)?;
     let mut log = ProofLog::new(alloc, SharedProblem::try_clone(&problem).ok()?);
     let mut other = ProofLog::new(alloc, problem);
-    let _first = add_line(alloc, &mut log, STEPS[1]).ok()?;
-    let _second = add_line(alloc, &mut other, STEPS[0]).ok()?;
-    let _third = add_line(alloc, &mut other, STEPS[2]).ok()?;
-    let _fourth = add_line(alloc, &mut other, CONE[2]).ok()?;
+    let _first = add_line(alloc, &mut log, NOT_4).ok()?;
+    let _second = add_line(alloc, &mut other, NOT_0).ok()?;
+    let _third = add_line(alloc, &mut other, NOT_2).ok()?;
+    let _fourth = add_line(alloc, &mut other, RENUMBERED).ok()?;
     let shift = log.append_all(alloc, &other).ok()?;
     let want = [
-        STEPS[1],
-        STEPS[0],
-        STEPS[2],
+        NOT_4,
+        NOT_0,
+        NOT_2,
         (&[], &[Hint::Step(1), Hint::Step(2), Hint::Rule(4)]),
     ];
     Some((shift, are(log.steps(), &want)))
