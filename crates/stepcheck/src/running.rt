@@ -1,14 +1,13 @@
-ghost use Rattle.std.specs.Prelude.{◌≡◌, true, IfOk};
+ghost use Rattle.std.specs.Prelude.{◌≡◌, true, IfOk, string_bytes};
 ghost use Rattle.draw_ports.specs.Causes.{Rose};
 ghost use Rattle.stepcheck.specs.Statuses.{has_line};
+ghost use Rattle.stepcheck.specs.Verdicts.{verdict_of, verdict_line, verdict_status};
 
 use crate::listing::{ListFault, Listing};
 use crate::status::Status;
-use crate::verdict::{Unsaid, Verdict, verdict_of};
+use crate::verdict::{Unsaid, verdict_of};
 use crate::words::number_of;
-use cert_checker::Checked;
-use count_core::CoreFault;
-use draw_ports::{NoMemory, PortFault, Sink, Source, put_all, read_all};
+use draw_ports::{PortFault, Sink, Source, put_all, read_all};
 use std::alloc::Global;
 
 const USAGE: &[u8] = b"usage: stepcheck BYTES\n";
@@ -66,44 +65,31 @@ fn reply_to(alloc: Global, text: &[u8]) -> Result<(String, Status), Unsaid>
 {
     let listing = match Listing::read(alloc, text) {
         Ok(listing) => listing,
-        Err(ListFault::Line(line)) => return said(not_a_list(alloc, line), Status::Refused),
+        Err(ListFault::Line(line)) => return not_a_list(alloc, line),
         Err(ListFault::NoMemory) => return Err(Unsaid::NoMemory),
     };
-    match verdict_of(alloc, listing)? {
-        Verdict::Checked(Checked::Accepted) => said(accepted(alloc), Status::Accepted),
-        Verdict::Checked(Checked::Bad { step, hint }) => said(bad(alloc, step, hint), Status::Bad),
-        Verdict::Refused(fault) => said(refused(alloc, fault), Status::Refused),
-    }
+    told(alloc, listing)
 }
 
-fn said(line: Result<String, NoMemory>, status: Status) -> Result<(String, Status), Unsaid>
-    ensures { IfOk result (λ reply. reply.1 ≡ status) }
+/// The line and the status of a list: those of its verdict.
+fn told(alloc: Global, listing: Listing) -> Result<(String, Status), Unsaid>
+    ensures line { IfOk result (λ reply. string_bytes reply.0 ≡ verdict_line (verdict_of listing.atoms listing.rules.items listing.steps.items)) }
+    ensures status { IfOk result (λ reply. reply.1 ≡ verdict_status (verdict_of listing.atoms listing.rules.items listing.steps.items)) }
+    ensures told { IfOk result (λ reply. has_line reply.1 ≡ true) }
 {
-    match line {
-        Ok(line) => Ok((line, status)),
+    let verdict = verdict_of(alloc, listing)?;
+    match verdict.line(alloc) {
+        Ok(line) => Ok((line, verdict.status())),
         Err(_) => Err(Unsaid::NoMemory),
     }
 }
 
-fn accepted(alloc: Global) -> Result<String, NoMemory> {
-    format!(in alloc; "accepted\n")
-}
-
-fn bad(alloc: Global, step: u32, hint: u32) -> Result<String, NoMemory> {
-    format!(in alloc; "bad {step} {hint}\n")
-}
-
-fn not_a_list(alloc: Global, line: u64) -> Result<String, NoMemory> {
-    format!(in alloc; "not a list {line}\n")
-}
-
-fn refused(alloc: Global, fault: CoreFault) -> Result<String, NoMemory> {
-    match fault {
-        CoreFault::AtomRange { rule } => format!(in alloc; "problem refused {rule} AtomRange\n"),
-        CoreFault::RepeatedAtom { rule } => {
-            format!(in alloc; "problem refused {rule} RepeatedAtom\n")
-        }
-        CoreFault::BadBounds { rule } => format!(in alloc; "problem refused {rule} BadBounds\n"),
-        CoreFault::NoMemory => Err(NoMemory),
+/// The line and the status where that line of the text is the first that can't be taken.
+fn not_a_list(alloc: Global, line: u64) -> Result<(String, Status), Unsaid>
+    ensures { IfOk result (λ reply. reply.1 ≡ Status.Refused) }
+{
+    match format!(in alloc; "not a list {line}\n") {
+        Ok(line) => Ok((line, Status::Refused)),
+        Err(_) => Err(Unsaid::NoMemory),
     }
 }
