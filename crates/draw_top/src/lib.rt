@@ -4,6 +4,8 @@
 #[cfg(test)]
 mod check_tests;
 mod checking;
+#[cfg(test)]
+mod count_tests;
 mod faults;
 mod following;
 mod heads;

@@ -5,7 +5,13 @@ use crate::run::run_draw;
 use crate::status::Status;
 use draw_ports::{MemorySink, MemorySource, OpenGate};
 use draw_state::law_states_stay;
-use pairing_draw::{law_offer_exists, law_one_offer};
+use draw_tables::{
+    law_legal_where_nothing_broken, law_one_first_broken, law_one_table_of_text,
+};
+use pairing_draw::{
+    law_completable_where_satisfied, law_offer_exists, law_one_offer,
+    law_rules_and_questions_are_formed, law_tables_satisfy, law_values_complete,
+};
 use rule_sets::rules_from;
 use std::alloc::{AllocError, Global};
 use std::sync::Wait;
@@ -314,6 +320,13 @@ fn a_file_tells_its_kind(rt: HostRuntime) -> Result<(), Fail> {
 #[test]
 fn the_laws_return(rt: HostRuntime) {
     law_one_offer();
+    law_completable_where_satisfied();
+    law_rules_and_questions_are_formed();
+    law_tables_satisfy();
+    law_values_complete();
+    law_legal_where_nothing_broken();
+    law_one_first_broken();
+    law_one_table_of_text();
     law_offer_exists();
     law_states_stay();
     law_one_answer();

@@ -1,0 +1,114 @@
+use crate::tests::{ROUND_OF_16, TWO_TEAMS};
+use count_core::{Atom, Lit, satisfied};
+use draw_state::State;
+use draw_tables::{Move, Table};
+use pairing_draw::{decode, encode, lits_of};
+use rule_sets::{DrawFile, rules_from};
+use std::alloc::{AllocError, Global};
+use std::test::Fail;
+use team_files::{FileFault, TeamId, read_head};
+
+/// The places of the winners in their pot, runner-up by runner-up, as they were drawn in 2021/22.
+const DRAWN: [usize; 8] = [3, 5, 0, 1, 2, 7, 4, 6];
+
+fn file_of(alloc: Global, head: &str) -> Result<DrawFile, FileFault> {
+    let head = read_head(alloc, head.as_bytes())?;
+    rules_from(alloc, head)
+}
+
+/// The table that values make, where they satisfy the file's rules.
+fn decoded(alloc: Global, file: &DrawFile, values: &[bool]) -> Result<Option<Table>, AllocError> {
+    let problem = encode(alloc, file)?;
+    if !satisfied(&problem, values) {
+        return Ok(None);
+    }
+    let moves: &[Move] = &[];
+    let table = decode(alloc, file, moves, values)?;
+    Ok(Some(table))
+}
+
+/// The values of so many runners-up and winners that make just these pairs true.
+fn values_of(alloc: Global, winners: usize, given: &[usize]) -> Result<Vec<bool>, AllocError> {
+    let mut values = Vec::new(alloc);
+    for place in given {
+        for winner in 0..winners {
+            values.push(winner == *place)?;
+        }
+    }
+    Ok(values)
+}
+
+/// How many atoms and rules a file has.
+fn size_of(alloc: Global, file: &DrawFile) -> Result<(u32, usize), AllocError> {
+    let problem = encode(alloc, file)?;
+    Ok((problem.atoms(), problem.rules().len()))
+}
+
+/// 64 pairs; 8 rules of runners-up, 8 of winners, and 15 pairs that may not meet: 8 of one group
+/// and 7 of one association.
+#[test]
+fn a_pairing_is_counted(rt: HostRuntime) -> Result<(), Fail> {
+    let alloc = rt.alloc();
+    let file = file_of(alloc, ROUND_OF_16)?;
+    assert_eq!(rt; size_of(alloc, &file)?, (64, 31));
+    let small = file_of(alloc, TWO_TEAMS)?;
+    assert_eq!(rt; size_of(alloc, &small)?, (1, 2));
+    Ok(())
+}
+
+/// The winners of a table, by their places in the file.
+fn winners_of(table: &Option<Table>) -> &[TeamId] {
+    match table {
+        Some(table) => table.opponents(),
+        None => &[],
+    }
+}
+
+/// The values of the drawn table make it again; those of two runners-up with one winner make none.
+#[test]
+fn values_make_tables(rt: HostRuntime) -> Result<(), Fail> {
+    let alloc = rt.alloc();
+    let file = file_of(alloc, ROUND_OF_16)?;
+    let values = values_of(alloc, 8, &DRAWN)?;
+    let table = decoded(alloc, &file, &values)?;
+    assert!(rt;
+        winners_of(&table)
+            == [
+                TeamId(3),
+                TeamId(5),
+                TeamId(0),
+                TeamId(1),
+                TeamId(2),
+                TeamId(7),
+                TeamId(4),
+                TeamId(6)
+            ]
+            .as_slice()
+    );
+    let values = values_of(alloc, 8, &[3, 5, 3, 1, 2, 7, 4, 6])?;
+    let table = decoded(alloc, &file, &values)?;
+    assert!(rt; table.is_none());
+    Ok(())
+}
+
+/// The literals of a state's moves.
+fn lits(alloc: Global, state: &State) -> Result<Vec<Lit>, AllocError> {
+    lits_of(alloc, state.file(), state.moves())
+}
+
+/// A drawn ball has no literal, a pair has one.
+#[test]
+fn moves_have_literals(rt: HostRuntime) -> Result<(), Fail> {
+    let alloc = rt.alloc();
+    let file = file_of(alloc, TWO_TEAMS)?;
+    let mut state = State::start(alloc, &file)?;
+    assert!(rt; state.apply(alloc, Move::Drawn(TeamId(1))).is_ok());
+    assert!(rt; lits(alloc, &state)?.is_empty());
+    assert!(rt; state.apply(alloc, Move::Paired(TeamId(1), TeamId(0))).is_ok());
+    let pair = Lit {
+        atom: Atom(0),
+        positive: true,
+    };
+    assert!(rt; lits(alloc, &state)?.as_slice() == [pair].as_slice());
+    Ok(())
+}
