@@ -8,7 +8,7 @@ use Rattle.count_core.specs.Assignments.{value_of, makes_true, SatisfiesRule, Sa
 use Rattle.count_core.proofs.Lists.{count_cons}
 use Rattle.draw_tables.specs.declared.moves.Move.{Move}
 use Rattle.draw_tables.specs.declared.moves.Move.TheVariants.{Drawn, Paired}
-use Rattle.draw_tables.specs.Pots.{winners, runners_up}
+use Rattle.draw_tables.specs.Pots.{winners, runners_up, AreTeamsOf}
 use Rattle.draw_tables.specs.Pairings.{may_meet, GivesOpponent, IsLegalPairing}
 use Rattle.draw_tables.specs.States.{IsState}
 use Rattle.draw_tables.specs.Offers.{Extends, IsCompletable}
@@ -146,6 +146,19 @@ pub values_complete : (file : DrawFile) (ms : List Move) (values : List Bool) �
 values_complete file ms values state meets =
     let table = some_read values (length (runners_up file)) (winners file) (row_true file values meets.rules) in
     (table.0, legal file values meets.rules table.0 table.1, extends file values meets.rules table.0 table.1 ms state meets.moves)
+
+-- a table that is read off gives teams of the file
+known : (file : DrawFile) (ws : List TeamId) (k : ℕ) (x : TeamId) → AreTeamsOf file ws → slice_get ws k ≡ Some x → x.0 < length file.teams
+known file [] k x h e = cc
+known file (w ∷ ws) zero x h e = let s = same_entry w x e in rw (← s) h.0
+known file (w ∷ ws) (suc k) x h e = known file ws k x h.1 e
+
+are_teams : (file : DrawFile) (xs : List TeamId) → ((r : ℕ) (x : TeamId) → slice_get xs r ≡ Some x → x.0 < length file.teams) → AreTeamsOf file xs
+are_teams file [] h = tt
+are_teams file (x ∷ xs) h = (h 0 x refl, are_teams file xs (λ r y e. h (suc r) y e))
+
+pub read_teams : (file : DrawFile) (values : List Bool) (m : ℕ) (ws table : List TeamId) → AreTeamsOf file ws → IsRead values m ws table → AreTeamsOf file table
+read_teams file values m ws table h read = are_teams file table (λ r x e. let a = read.atoms r x e in known file ws a.0 x h a.1)
 
 -- ---- the reading, runner-up by runner-up
 

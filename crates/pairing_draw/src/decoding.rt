@@ -3,7 +3,7 @@ ghost use Rattle.count_core.specs.Assignments.{Satisfies, SatisfiesQuestion, val
 ghost use Rattle.draw_tables.specs.Offers.{Extends};
 ghost use Rattle.draw_tables.specs.Pots.{runners_up, winners};
 ghost use Rattle.draw_tables.specs.States.{IsState};
-ghost use Rattle.draw_tables.specs.Tables.{IsLegal, opponents};
+ghost use Rattle.draw_tables.specs.Tables.{IsLegal, IsTableOf, opponents};
 ghost use Rattle.pairing_draw.specs.Encoding.{IsRead, atom_of, lits_of_moves, rules_of};
 
 use crate::NoMemory;
@@ -14,7 +14,8 @@ use std::alloc::Global;
 use team_files::TeamId;
 
 /// The table of values that satisfy the rules of the file and make the literals of a state's moves
-/// true: it gives each runner-up the winner whose atom is true. It is legal and extends the moves.
+/// true: it gives each runner-up the winner whose atom is true. It is a table of the file, is legal and
+/// extends the moves.
 /// Values are by atom from 0. The only error is want of memory.
 pub fn decode(
     alloc: Global,
@@ -26,6 +27,7 @@ pub fn decode(
     requires rules { Satisfies values.now (rules_of file.now) }
     requires moves { SatisfiesQuestion values.now (lits_of_moves file.now moves.now) }
     ensures legal { IfOk result (λ table. IsLegal file.now table) }
+    ensures of_file { IfOk result (λ table. IsTableOf file.now table) }
     ensures extends { IfOk result (λ table. Extends file.now (opponents table) moves.now) }
     ensures atoms { IfOk result (λ table. IsRead values.now (length (runners_up file.now)) (winners file.now) (opponents table)) }
 {

@@ -2,13 +2,13 @@ ghost use Rattle.std.specs.Prelude.{◌≡◌, ◌+◌, ◌*◌, ◌≤◌, ◌<
 ghost use Rattle.std.specs.List.{range_with_len, enumerate_from, flat_map};
 ghost use Rattle.count_core.specs.Problems.{IsWellFormed};
 ghost use Rattle.draw_tables.specs.Pots.{AreTeamsOf};
-ghost use Rattle.pairing_draw.specs.Encoding.{bans_of, column_rule, never, pair_lit, row_rule, rules_between, rules_of};
+ghost use Rattle.pairing_draw.specs.Encoding.{bans_of, column_rule, exactly_one, never, pair_lit, row_rule, rules_between, rules_of};
 
 use crate::NoMemory;
 use crate::atoms::pair_lit;
 use crate::correspondence::law_rules_and_questions_are_formed;
 use crate::pots::pot_of;
-use count_core::{CountRule, Lits, Problem};
+use count_core::{CountRule, Lit, Lits, Problem};
 use draw_tables::may_meet;
 use rule_sets::DrawFile;
 use std::alloc::Global;
@@ -60,6 +60,17 @@ fn problem_of(alloc: Global, atoms: u32, rules: Vec<CountRule>) -> Result<Proble
     }
 }
 
+/// The rule that exactly one of the literals is true.
+fn exactly_one(lits: Vec<Lit>) -> CountRule
+    ensures { result ≡ exactly_one lits.items }
+{
+    CountRule {
+        lits: Lits::new(lits),
+        lo: 1,
+        hi: 1,
+    }
+}
+
 /// Adds for each runner-up the rule that it gets one winner.
 fn add_rows(
     alloc: Global,
@@ -88,11 +99,7 @@ fn row_rule(alloc: Global, winners: usize, runner: usize) -> Result<CountRule, N
     for winner in 0..winners {
         lits.push(pair_lit(winners, runner, winner))?;
     }
-    Ok(CountRule {
-        lits: Lits::new(lits),
-        lo: 1,
-        hi: 1,
-    })
+    Ok(exactly_one(lits))
 }
 
 /// Adds for each winner the rule that it is given to one runner-up.
@@ -129,11 +136,7 @@ fn column_rule(
     for runner in 0..runners {
         lits.push(pair_lit(winners, runner, winner))?;
     }
-    Ok(CountRule {
-        lits: Lits::new(lits),
-        lo: 1,
-        hi: 1,
-    })
+    Ok(exactly_one(lits))
 }
 
 /// Adds for each runner-up, and each winner that it may not meet, the rule that it does not get it.

@@ -20,17 +20,25 @@ pub fn lits_of(alloc: Global, file: &DrawFile, moves: &[Move]) -> Result<Vec<Lit
     ensures within { IfOk result (λ lits. are_within (rules_of file.now).atoms lits.items ≡ true) }
     ensures distinct { IfOk result (λ lits. repeats lits.items ≡ false) }
 {
+    let lits = literals_of(alloc, file, moves)?;
+    Ok(lits)
+}
+
+/// The literals of moves, in order.
+fn literals_of(alloc: Global, file: &DrawFile, moves: &[Move]) -> Result<Vec<Lit>, NoMemory>
+    ensures { IfOk result (λ lits. lits.items ≡ lits_of_moves file.now moves.now) }
+{
     let winners = pot_of(alloc, file, 1)?;
     let runners = pot_of(alloc, file, 2)?;
-    let mut lits = Vec::new(alloc);
+    let mut literals = Vec::new(alloc);
     for step in moves {
         if let Move::Paired(runner, winner) = *step {
             let place = place_of(runner, &runners);
             let other = place_of(winner, &winners);
-            lits.push(pair_lit(winners.len(), place, other))?;
+            literals.push(pair_lit(winners.len(), place, other))?;
         }
     }
-    Ok(lits)
+    Ok(literals)
 }
 
 /// The place of the team in the list, counted from 0; their number where it is none of them.

@@ -1,6 +1,7 @@
 use Rattle.std.proofs.Common.{◌≡◌, length, rules}
-use Rattle.draw_tables.specs.Pots.{runners_up}
-use Rattle.pairing_draw.proofs.Reading.{row_true, legal, extends}
+use Rattle.draw_tables.specs.Pots.{runners_up, winners}
+use Rattle.pairing_draw.specs.Encoding.{IsRead}
+use Rattle.pairing_draw.proofs.Reading.{row_true, legal, extends, read_teams}
 use Rattle.pairing_draw.proofs.decoding.decode.Goals as goal
 
 pub read_rows-requires-clause-each : goal.read_rows-requires-clause-each
@@ -11,3 +12,9 @@ returns-clause-legal c = legal c.args.file.now c.args.values.now c.requires.rule
 
 pub returns-clause-extends : goal.returns-clause-extends
 returns-clause-extends c = extends c.args.file.now c.args.values.now c.requires.rules c.new.result.winners (search rules) c.args.moves.now c.requires.state c.requires.moves
+
+pub returns-clause-of_file : goal.returns-clause-of_file
+returns-clause-of_file c =
+    let read : IsRead c.args.values.now (length (runners_up c.args.file.now)) (winners c.args.file.now) c.new.result.winners = search rules in
+    let teams = rw c.in_ok-winners.ensures.teams at c.in_ok-winners.ensures.within in
+    record { size = read.size; teams = read_teams c.args.file.now c.args.values.now (length (runners_up c.args.file.now)) (winners c.args.file.now) c.new.result.winners teams read }

@@ -1,7 +1,7 @@
 use Rattle.std.proofs.Common.{◌≡◌, ◌++◌, drop}
 use Rattle.pairing_draw.specs.Encoding.{lits_of_moves}
-use Rattle.pairing_draw.proofs.literals.lits_of.Given as goal
+use Rattle.pairing_draw.proofs.literals.literals_of.Given as goal
 
 -- the literals so far and those of the moves left are all
 abbrev pub invariant-loop-step : goal.invariant-loop-step
-invariant-loop-step l = l.lits.items ++ lits_of_moves l.file (drop l.step-index l.moves) ≡ lits_of_moves l.file l.moves
+invariant-loop-step l = l.literals.items ++ lits_of_moves l.file (drop l.step-index l.moves) ≡ lits_of_moves l.file l.moves
