@@ -56,39 +56,49 @@ fn a_pairing_is_counted(rt: HostRuntime) -> Result<(), Fail> {
     Ok(())
 }
 
-/// The winners of a table, by their places in the file.
-fn winners_of(table: &Option<Table>) -> &[TeamId] {
-    match table {
-        Some(table) => table.opponents(),
-        None => &[],
+/// Whether the values that give these winners make the table of the same winners again.
+fn make_their_table(alloc: Global, file: &DrawFile, given: &[usize]) -> Result<bool, AllocError> {
+    let values = values_of(alloc, 8, given)?;
+    match decoded(alloc, file, &values)? {
+        Some(table) => Ok(are_places(table.opponents(), given)),
+        None => Ok(false),
     }
 }
 
+/// Whether the teams stand at these places of the file.
+fn are_places(teams: &[TeamId], places: &[usize]) -> bool {
+    for (team, place) in teams.iter().zip(places) {
+        if team.0 as usize != *place {
+            return false;
+        }
+    }
+    teams.len() == places.len()
+}
+
 /// The values of the drawn table make it again; those of two runners-up with one winner make none.
+/// The winners stand first in the file.
 #[test]
 fn values_make_tables(rt: HostRuntime) -> Result<(), Fail> {
     let alloc = rt.alloc();
     let file = file_of(alloc, ROUND_OF_16)?;
-    let values = values_of(alloc, 8, &DRAWN)?;
-    let table = decoded(alloc, &file, &values)?;
-    assert!(rt;
-        winners_of(&table)
-            == [
-                TeamId(3),
-                TeamId(5),
-                TeamId(0),
-                TeamId(1),
-                TeamId(2),
-                TeamId(7),
-                TeamId(4),
-                TeamId(6)
-            ]
-            .as_slice()
-    );
-    let values = values_of(alloc, 8, &[3, 5, 3, 1, 2, 7, 4, 6])?;
-    let table = decoded(alloc, &file, &values)?;
-    assert!(rt; table.is_none());
+    assert!(rt; make_their_table(alloc, &file, &DRAWN)?);
+    assert!(rt; !make_their_table(alloc, &file, &[3, 5, 3, 1, 2, 7, 4, 6])?);
     Ok(())
+}
+
+/// Whether the state's moves have no literal after a drawn ball, and one after its pair.
+fn have_literals(alloc: Global, state: &mut State) -> Result<bool, AllocError> {
+    let drawn = state.apply(alloc, Move::Drawn(TeamId(1))).is_ok();
+    let before = lits(alloc, state)?;
+    let paired = state
+        .apply(alloc, Move::Paired(TeamId(1), TeamId(0)))
+        .is_ok();
+    let after = lits(alloc, state)?;
+    let pair = Lit {
+        atom: Atom(0),
+        positive: true,
+    };
+    Ok(drawn && paired && before.is_empty() && after.as_slice() == [pair].as_slice())
 }
 
 /// The literals of a state's moves.
@@ -102,13 +112,6 @@ fn moves_have_literals(rt: HostRuntime) -> Result<(), Fail> {
     let alloc = rt.alloc();
     let file = file_of(alloc, TWO_TEAMS)?;
     let mut state = State::start(alloc, &file)?;
-    assert!(rt; state.apply(alloc, Move::Drawn(TeamId(1))).is_ok());
-    assert!(rt; lits(alloc, &state)?.is_empty());
-    assert!(rt; state.apply(alloc, Move::Paired(TeamId(1), TeamId(0))).is_ok());
-    let pair = Lit {
-        atom: Atom(0),
-        positive: true,
-    };
-    assert!(rt; lits(alloc, &state)?.as_slice() == [pair].as_slice());
+    assert!(rt; have_literals(alloc, &mut state)?);
     Ok(())
 }

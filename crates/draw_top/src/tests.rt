@@ -5,9 +5,7 @@ use crate::run::run_draw;
 use crate::status::Status;
 use draw_ports::{MemorySink, MemorySource, OpenGate};
 use draw_state::law_states_stay;
-use draw_tables::{
-    law_legal_where_nothing_broken, law_one_first_broken, law_one_table_of_text,
-};
+use draw_tables::{law_legal_where_nothing_broken, law_one_first_broken, law_one_table_of_text};
 use pairing_draw::{
     law_completable_where_satisfied, law_offer_exists, law_one_offer,
     law_rules_and_questions_are_formed, law_tables_satisfy, law_values_complete,
