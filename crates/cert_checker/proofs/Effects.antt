@@ -1,9 +1,9 @@
 -- What a rule says, by the numbers of its true and false literals.
-use Rattle.std.proofs.Common.{◌≡◌, ◌≢◌, ℕ, ◌+◌, ◌-◌, ◌≤◌, ◌<◌, Bool, true, false, cond, List, length, refl, arith}
-use Rattle.std.specs.Prelude.{◌||◌, ◌&&◌, ◌==◌, nat_lt}
+use Rattle.std.proofs.Common.{◌≡◌, ◌≢◌, ℕ, ◌-◌, ◌≤◌, ◌<◌, true, false, List, length, refl, arith}
+use Rattle.std.specs.Prelude.{◌==◌}
 use Rattle.std.proofs.lemmas.Bool.Decides.{nat_tests}
 use Rattle.count_core.specs.declared.lit.Lit.{Lit}
-use Rattle.count_core.specs.Partials.{Partial, trues, falses, unsets, conflicts, forces, forced, settle_all}
+use Rattle.count_core.specs.Partials.{Partial, trues, falses, conflicts, forces, forced, settle_all}
 use Rattle.count_core.proofs.Forcing.{conflicts_is, forces_is, forced_is, numbers_add}
 
 module _ (p : Partial) (ls : List Lit) (lo hi t f : ℕ) (ts : t ≡ trues p ls) (fs : f ≡ falses p ls) where

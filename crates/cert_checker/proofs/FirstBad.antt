@@ -1,10 +1,8 @@
 -- What the answer of a check says of the list.
-use Rattle.std.proofs.Common.{◌≡◌, ℕ, zero, suc, ◌+◌, List, [], ◌∷◌, ◌++◌, refl, sym, ap, ◌∙◌, arith, Option, Some, None, slice_get, take, append_assoc, append-nil, add-zero}
-use Rattle.std.specs.Prelude.{◌↔◌}
+use Rattle.std.proofs.Common.{◌≡◌, ℕ, zero, suc, ◌+◌, List, [], ◌∷◌, ◌++◌, refl, ap, ◌∙◌, arith, Option, Some, None, slice_get, take, append_assoc, append-nil, add-zero}
 use Rattle.count_core.specs.declared.step.Step.{Step}
 use Rattle.count_core.specs.Problems.{Problem}
-use Rattle.count_core.specs.Steps.{failing_hint, AreAccepted, AreAcceptedAfter}
-use Rattle.cert_checker.specs.declared.checked.Checked.{Checked}
+use Rattle.count_core.specs.Steps.{failing_hint, AreAcceptedAfter}
 use Rattle.cert_checker.specs.declared.checked.Checked.TheVariants.{Accepted, Bad}
 use Rattle.cert_checker.specs.Checks.{bad_or, first_bad, IsFirstBad}
 

@@ -1,5 +1,5 @@
 -- Lists of steps that a u32 numbers.
-use Rattle.std.specs.Prelude.{ℕ, ◌<◌, ◌^◌, List, length}
+use Rattle.std.specs.Prelude.{◌<◌, ◌^◌, List, length}
 use Rattle.std.specs.List.{AllByRecursion}
 use Rattle.count_core.specs.declared.step.Step.{Step}
 

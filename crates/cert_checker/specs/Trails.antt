@@ -1,5 +1,5 @@
 -- Values by atom and the list of the atoms that are set.
-use Rattle.std.specs.Prelude.{◌≡◌, ℕ, ◌+◌, ◌≤◌, Bool, true, false, List, [], ◌∷◌, length, Option, Some, None, slice_set, replicate, count_by}
+use Rattle.std.specs.Prelude.{◌≡◌, ℕ, ◌+◌, ◌≤◌, List, [], ◌∷◌, length, Some, None, slice_set, replicate}
 use Rattle.count_core.specs.Partials.{Partial}
 
 -- the atoms of the list unset

@@ -1,6 +1,5 @@
-use Rattle.std.proofs.Common.{◌≡◌, sym, ◌∙◌, []}
+use Rattle.std.proofs.Common.{sym, ◌∙◌, []}
 use Rattle.count_core.proofs.Soundness.{clauses_follow}
-use Rattle.cert_checker.specs.Checks.{first_bad}
 use Rattle.cert_checker.proofs.FirstBad.{all_accepted, none_bad, first_is_bad, bad_is_first}
 use Rattle.cert_checker.proofs.checking.check.Goals as goal
 

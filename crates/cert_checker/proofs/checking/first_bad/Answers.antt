@@ -1,4 +1,4 @@
-use Rattle.std.proofs.Common.{◌≡◌, ◌<◌, ◌^◌, length, arith, sym, subst, ap, ◌∙◌, get_or, Some}
+use Rattle.std.proofs.Common.{◌<◌, ◌^◌, length, arith, sym, ap, ◌∙◌, Some}
 use Rattle.std.proofs.lemmas.Option.{slice_get-get_or}
 use Rattle.count_core.specs.declared.step.Step.{Step}
 use Rattle.count_core.proofs.Lists.{each_at}

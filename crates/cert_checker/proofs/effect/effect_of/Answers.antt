@@ -1,4 +1,4 @@
-use Rattle.std.proofs.Common.{◌≡◌, Bool, true, false, arith}
+use Rattle.std.proofs.Common.{◌≡◌, true, false, arith}
 use Rattle.cert_checker.proofs.Effects.{too_many, too_few, quiet, at_hi, at_lo, all_set, between, forced_false, forced_true}
 use Rattle.cert_checker.proofs.effect.effect_of.Goals as goal
 

@@ -1,5 +1,4 @@
-use Rattle.std.proofs.Common.{◌≡◌, true, false, ◌∙◌, refl, arith}
-use Rattle.count_core.specs.Partials.{conflicts, forces, forced, settle_all}
+use Rattle.std.proofs.Common.{◌∙◌, refl, arith}
 use Rattle.cert_checker.specs.Named.{rule_of}
 use Rattle.cert_checker.proofs.Turns.{goes_on, as_long}
 use Rattle.cert_checker.proofs.walk.failing_from.Goals as goal

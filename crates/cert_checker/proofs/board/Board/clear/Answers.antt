@@ -1,4 +1,4 @@
-use Rattle.std.proofs.Common.{◌≡◌, ◌∙◌, length, arith, None, ap}
+use Rattle.std.proofs.Common.{◌≡◌, ◌∙◌, length, arith, None}
 use Rattle.std.specs.Prelude.{replicate}
 use Rattle.cert_checker.proofs.Trails.{kept_clear, written_back, replicate_length}
 use Rattle.cert_checker.proofs.board.Board.clear.Goals as goal

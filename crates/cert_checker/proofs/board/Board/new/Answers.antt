@@ -1,4 +1,4 @@
-use Rattle.std.proofs.Common.{◌≡◌, [], None, rules, arith, ◌≤◌}
+use Rattle.std.proofs.Common.{◌≡◌, [], None, rules, arith}
 use Rattle.std.specs.Prelude.{replicate}
 use Rattle.cert_checker.proofs.Trails.{kept_clear}
 use Rattle.cert_checker.proofs.board.Board.new.Goals as goal

@@ -1,4 +1,4 @@
-use Rattle.std.proofs.Common.{◌≡◌, sym, ◌∙◌, true, arith, length, ◌<◌, None}
+use Rattle.std.proofs.Common.{sym, ◌∙◌, arith}
 use Rattle.cert_checker.proofs.Trails.{has_room, kept_set, free_within, free_unset, free_settled}
 use Rattle.cert_checker.proofs.board.Board.settle.Goals as goal
 
