@@ -23,13 +23,13 @@ const CLASH: [Row<'static>; 10] = [
     (&[1, 3, 5, 7], 0, 1),
 ];
 
-const R4: Hint = Hint::Rule(4);
+const RULE_4: Hint = Hint::Rule(4);
 
-const R5: Hint = Hint::Rule(5);
+const RULE_5: Hint = Hint::Rule(5);
 
-const R8: Hint = Hint::Rule(8);
+const RULE_8: Hint = Hint::Rule(8);
 
-const R9: Hint = Hint::Rule(9);
+const RULE_9: Hint = Hint::Rule(9);
 
 const NOT_0: &[(u32, bool)] = &[(0, false)];
 
@@ -120,38 +120,62 @@ fn answer_to(alloc: Global, atoms: u32, rows: &[Row<'_>], lines: &[Line<'_>]) ->
 #[test]
 fn lists_over_the_clash(rt: HostRuntime) {
     let accepted = Outcome::Answer(Checked::Accepted);
-    let last: Line<'_> = (&[], &[Hint::Step(0), Hint::Step(1), R4]);
+    let last: Line<'_> = (&[], &[Hint::Step(0), Hint::Step(1), RULE_4]);
     let cases: [(&[Line<'_>], Outcome); 17] = [
-        (&[(NOT_0, &[R8, R5]), (NOT_2, &[R8, R5]), last], accepted),
-        (&[(NOT_0, &[R8, R4]), (NOT_2, &[R8, R5]), last], bad(0, 1)),
-        (&[(NOT_0, &[R9, R8, R5])], bad(0, 0)),
-        (&[(NOT_0, &[R8])], bad(0, 1)),
-        (&[(&[(0, false), (0, false)], &[R8, R5])], bad(0, 0)),
+        (
+            &[(NOT_0, &[RULE_8, RULE_5]), (NOT_2, &[RULE_8, RULE_5]), last],
+            accepted,
+        ),
+        (
+            &[(NOT_0, &[RULE_8, RULE_4]), (NOT_2, &[RULE_8, RULE_5]), last],
+            bad(0, 1),
+        ),
+        (&[(NOT_0, &[RULE_9, RULE_8, RULE_5])], bad(0, 0)),
+        (&[(NOT_0, &[RULE_8])], bad(0, 1)),
+        (&[(&[(0, false), (0, false)], &[RULE_8, RULE_5])], bad(0, 0)),
         (&[(NOT_0, &[])], bad(0, 0)),
-        (&[(NOT_0, &[R8, R5, R4])], bad(0, 1)),
+        (&[(NOT_0, &[RULE_8, RULE_5, RULE_4])], bad(0, 1)),
         (&[], accepted),
         // A later step, the step itself, rules past the last.
         (
-            &[(NOT_0, &[R8, Hint::Step(1)]), (NOT_2, &[R8, R5])],
+            &[
+                (NOT_0, &[RULE_8, Hint::Step(1)]),
+                (NOT_2, &[RULE_8, RULE_5]),
+            ],
             bad(0, 1),
         ),
         (
-            &[(NOT_0, &[R8, R5]), (NOT_2, &[R8, Hint::Step(1)])],
+            &[
+                (NOT_0, &[RULE_8, RULE_5]),
+                (NOT_2, &[RULE_8, Hint::Step(1)]),
+            ],
             bad(1, 1),
         ),
-        (&[(NOT_0, &[Hint::Rule(4_294_967_295), R5])], bad(0, 0)),
-        (&[(NOT_0, &[R8, Hint::Rule(10)])], bad(0, 1)),
+        (&[(NOT_0, &[Hint::Rule(4_294_967_295), RULE_5])], bad(0, 0)),
+        (&[(NOT_0, &[RULE_8, Hint::Rule(10)])], bad(0, 1)),
         // An atom out of range, an atom with its negation, an empty clause that nothing forces.
-        (&[(NOT_0, &[R8, R5]), (&[(8, false)], &[R8, R5])], bad(1, 0)),
-        (&[(&[(0, false), (0, true)], &[R8, R5])], bad(0, 0)),
-        (&[(&[], &[R8, R5])], bad(0, 0)),
+        (
+            &[
+                (NOT_0, &[RULE_8, RULE_5]),
+                (&[(8, false)], &[RULE_8, RULE_5]),
+            ],
+            bad(1, 0),
+        ),
+        (&[(&[(0, false), (0, true)], &[RULE_8, RULE_5])], bad(0, 0)),
+        (&[(&[], &[RULE_8, RULE_5])], bad(0, 0)),
         // Rule 8 forces three literals at once, among them the two of rule 5.
         (
-            &[(&[(0, false), (5, true), (1, true)], &[R8, R5])],
+            &[(&[(0, false), (5, true), (1, true)], &[RULE_8, RULE_5])],
             accepted,
         ),
         // What the first step sets is unset for the second.
-        (&[(NOT_0, &[R8, R5]), (&[(3, true)], &[R5, R8])], bad(1, 0)),
+        (
+            &[
+                (NOT_0, &[RULE_8, RULE_5]),
+                (&[(3, true)], &[RULE_5, RULE_8]),
+            ],
+            bad(1, 0),
+        ),
     ];
     for (lines, want) in cases {
         assert_eq!(rt; answer_to(rt.alloc(), 8, &CLASH, lines), want, "{lines:?}");
@@ -196,7 +220,7 @@ fn chain(alloc: Global, length: u32) -> Result<Vec<Step>, NoMemory> {
     let mut steps = Vec::new(alloc);
     for number in 0..length {
         let hints = if number == 0 {
-            Hints::from_slice(alloc, &[R8, R5])?
+            Hints::from_slice(alloc, &[RULE_8, RULE_5])?
         } else {
             Hints::from_slice(alloc, &[Hint::Step(number - 1)])?
         };
