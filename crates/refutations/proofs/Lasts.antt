@@ -1,12 +1,11 @@
 -- The last step of a list, and lemmas and refutations that begin a log.
-use Rattle.std.proofs.Common.{◌≡◌, ℕ, zero, suc, ◌+◌, ◌-◌, ◌<◌, ◌≤◌, List, [], ◌∷◌, ◌++◌, length, take, get_or, refl, sym, ap, ◌∙◌, arith, Option, Some, None, slice_get, subst}
+use Rattle.std.proofs.Common.{◌≡◌, ℕ, zero, suc, ◌+◌, ◌-◌, ◌<◌, List, [], ◌∷◌, ◌++◌, length, take, refl, sym, ap, ◌∙◌, arith, Some, slice_get, subst}
 use Rattle.std.proofs.lemmas.List.{length-take-le}
-use Rattle.std.proofs.lemmas.Option.{slice_get_within, slice_get_past}
 use Rattle.count_core.specs.declared.lit.Lit.{Lit}
 use Rattle.count_core.specs.declared.step.Step.{Step}
 use Rattle.count_core.specs.Problems.{Problem}
 use Rattle.count_core.specs.Assignments.{Follows}
-use Rattle.count_core.specs.Steps.{AreAccepted, HasLast, NegatesOnly, IsRefutation}
+use Rattle.count_core.specs.Steps.{AreAccepted, NegatesOnly, IsRefutation}
 use Rattle.count_core.proofs.Soundness.{clause_follows}
 use Rattle.count_core.proofs.Renumbering.{take_accepted, last_of_take}
 use Rattle.refutations.specs.Derivations.{clause_of, clause_at, last_clause, IsLemma}

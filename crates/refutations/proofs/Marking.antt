@@ -1,11 +1,10 @@
 -- Marks of the steps that a step reaches, set from the last step down.
-use Rattle.std.proofs.Common.{◌≡◌, ◌≢◌, ◌↔◌, ℕ, zero, suc, ◌+◌, ◌≤◌, ◌<◌, Bool, true, false, List, [], ◌∷◌, length, get_or, refl, sym, ap, ◌∙◌, arith, Option, Some, None, slice_get, subst, ◌⊎◌, inl, inr, get_or-set_same, get_or-set_other}
+use Rattle.std.proofs.Common.{◌≡◌, ◌≢◌, ◌↔◌, ℕ, suc, ◌+◌, ◌≤◌, ◌<◌, Bool, true, false, List, length, refl, sym, ◌∙◌, arith, Some, slice_get, subst, ◌⊎◌, inl, inr, get_or-set_same, get_or-set_other}
 use Rattle.std.specs.Prelude.{slice_set, ◌||◌, ◌==◌}
-use Rattle.std.specs.List.{list_any, AllByRecursion as Each}
+use Rattle.std.specs.List.{list_any}
 use Rattle.std.proofs.lemmas.Bool.Decides.{Decides-eqb}
-use Rattle.count_core.specs.declared.hint.Hint.{Hint}
 use Rattle.count_core.specs.declared.step.Step.{Step}
-use Rattle.refutations.specs.Earlier.{IsBelow, AreEarlier}
+use Rattle.refutations.specs.Earlier.{AreEarlier}
 use Rattle.refutations.specs.Cones.{is_to, Names, Reaches, itself, onward, is_in}
 use Rattle.refutations.proofs.Naming.{any_below}
 

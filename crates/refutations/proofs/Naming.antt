@@ -1,5 +1,5 @@
 -- In an accepted list each hint names a rule or an earlier step.
-use Rattle.std.proofs.Common.{◌≡◌, ℕ, ◌<◌, ◌≤◌, Bool, true, false, List, [], ◌∷◌, length, take, get_or, refl, sym, arith, Option, Some, None, slice_get, subst}
+use Rattle.std.proofs.Common.{◌≡◌, ℕ, ◌<◌, ◌≤◌, Bool, true, false, List, [], ◌∷◌, length, take, get_or, refl, arith, Option, Some, None, slice_get, subst}
 use Rattle.std.specs.Prelude.{option_map, ◌||◌, ◌==◌}
 use Rattle.std.specs.List.{list_any, AllByRecursion as Each}
 use Rattle.std.proofs.lemmas.List.{length-take-le}

@@ -1,9 +1,9 @@
 -- The steps of a set that is closed under hints: renumbered, they are accepted.
-use Rattle.std.proofs.Common.{◌≡◌, ℕ, zero, suc, ◌+◌, ◌-◌, ◌≤◌, ◌<◌, Bool, true, false, cond, List, [], ◌∷◌, ◌++◌, length, take, drop, drop-cons, get_or, refl, sym, ap, ◌∙◌, arith, Option, Some, None, slice_get, subst, append_assoc}
+use Rattle.std.proofs.Common.{◌≡◌, ℕ, zero, suc, ◌+◌, ◌-◌, ◌≤◌, ◌<◌, Bool, true, false, cond, List, [], ◌∷◌, ◌++◌, length, take, drop, refl, sym, ap, ◌∙◌, arith, Some, slice_get, subst}
 use Rattle.std.proofs.Common.{Result, Ok, Err, IfOk}
-use Rattle.std.specs.Prelude.{map, count_by, slice_index, ◌||◌, ◌==◌}
+use Rattle.std.specs.Prelude.{map, count_by, ◌||◌, ◌==◌}
 use Rattle.std.specs.List.{list_any, AllByRecursion as Each}
-use Rattle.std.proofs.lemmas.List.{take-append-le, length-append, take_all}
+use Rattle.std.proofs.lemmas.List.{take-append-le, length-append}
 use Rattle.std.proofs.lemmas.Bool.Decides.{Decides-eqb}
 use Rattle.std.proofs.lemmas.Option.{slice_get_within}
 use Rattle.count_core.specs.declared.count_rule.CountRule.{CountRule}
@@ -16,7 +16,7 @@ use Rattle.count_core.proofs.Lists.{count_cons}
 use Rattle.count_core.proofs.Renumbering.{mapped_name_the_same, accepted_moved, step_named}
 use Rattle.refutations.specs.Derivations.{clause_of, clause_at, last_clause, IsLemma}
 use Rattle.refutations.specs.Earlier.{IsBelow, ArePlaces, by_place, by_places}
-use Rattle.refutations.specs.Cones.{is_to, Names, Reaches, itself, onward, is_in, number_below, placed_hint, placed, sublist, IsCone}
+use Rattle.refutations.specs.Cones.{is_to, Names, itself, onward, is_in, number_below, placed_hint, placed, sublist, IsCone}
 use Rattle.refutations.proofs.Lasts.{step_there}
 
 -- ---- places

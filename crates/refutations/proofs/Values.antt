@@ -1,7 +1,6 @@
 -- Values set and taken away again, and what a rule says by numbers.
 use Rattle.std.proofs.Common.{◌≡◌, ◌≢◌, ℕ, zero, suc, ◌+◌, ◌-◌, ◌≤◌, ◌<◌, Bool, true, false, cond, not, List, [], ◌∷◌, ◌++◌, length, take, drop, drop-cons, get_or, refl, sym, ap, ◌∙◌, arith, Option, Some, None, slice_get, ◌⊎◌, inl, inr}
 use Rattle.std.specs.Prelude.{slice_set, ◌||◌, ◌&&◌, ◌==◌, nat_lt, replicate}
-use Rattle.std.specs.List.{list_any, AllByRecursion as Each}
 use Rattle.std.proofs.lemmas.Bool.Decides.{nat_tests, Decides-eqb}
 use Rattle.std.proofs.lemmas.List.{length-set, length-replicate, length-append, drop_all, take_all, append-nil}
 use Rattle.std.proofs.lemmas.Option.{slice_get_within}
@@ -10,8 +9,8 @@ use Rattle.count_core.specs.Problems.{repeats, are_within}
 use Rattle.count_core.specs.Assignments.{signed}
 use Rattle.count_core.proofs.Denials.{meets_set, meets_set_repeats}
 use Rattle.count_core.specs.Partials.{Partial, known, is_unset, settle, trues, falses, unsets, conflicts, forces, forced, settle_all}
-use Rattle.count_core.proofs.Lists.{each_map, each_push}
-use Rattle.count_core.proofs.Forcing.{known_same, known_other, known_none, known_set, numbers_add, settle_set, settle_unset, unset_none, none_unset, conflicts_is, forces_is, forced_is}
+use Rattle.count_core.proofs.Lists.{each_push}
+use Rattle.count_core.proofs.Forcing.{known_other, known_none, known_set, numbers_add, settle_set, settle_unset, unset_none, none_unset, conflicts_is, forces_is, forced_is}
 use Rattle.refutations.specs.Boards.{unset, is_on, IsBoard}
 
 known_away : (p : Partial) (a : ℕ) (b : Bool) → known (slice_set p a None) a ≡ Some b → ⊥

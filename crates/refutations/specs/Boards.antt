@@ -2,7 +2,6 @@
 -- private parts of this crate speak of them.
 use Rattle.std.specs.Prelude.{◌≡◌, ℕ, suc, ◌+◌, ◌≤◌, ◌<◌, ◌==◌, Bool, true, List, [], ◌∷◌, length, Some, None}
 use Rattle.std.specs.List.{list_any, AllByRecursion}
-use Rattle.count_core.specs.declared.count_rule.CountRule.{CountRule}
 use Rattle.count_core.specs.Partials.{Partial, known}
 
 -- how many atoms have no value

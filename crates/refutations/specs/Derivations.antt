@@ -1,6 +1,6 @@
 -- Logs, lemmas and closed questions, as contracts see them. What an accepted step, an accepted list, a
 -- refutation and a clause that follows are, count_core says.
-use Rattle.std.specs.Prelude.{◌≡◌, ℕ, ◌-◌, ◌<◌, List, [], length, Option, Some, None, slice_get}
+use Rattle.std.specs.Prelude.{ℕ, ◌-◌, ◌<◌, List, [], length, Option, Some, None, slice_get}
 use Rattle.count_core.specs.declared.lit.Lit.{Lit}
 use Rattle.count_core.specs.declared.hint.Hint.{Hint}
 use Rattle.count_core.specs.declared.step.Step.{Step}

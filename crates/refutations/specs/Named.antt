@@ -1,5 +1,4 @@
 -- What a hint names, as this crate's code has it.
-use Rattle.std.specs.Prelude.{ℕ}
 use Rattle.count_core.specs.declared.count_rule.CountRule.{CountRule}
 use Rattle.refutations.specs.declared.propagation.Named.{Named}
 

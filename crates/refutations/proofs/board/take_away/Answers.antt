@@ -1,4 +1,4 @@
-use Rattle.std.proofs.Common.{◌≡◌, ◌∙◌, arith, ap, length, replicate, None}
+use Rattle.std.proofs.Common.{arith}
 use Rattle.refutations.proofs.Values.{away_next, away_all}
 use Rattle.refutations.proofs.board.take_away.Goals as goal
 

@@ -1,7 +1,6 @@
-use Rattle.std.proofs.Common.{◌≡◌, ◌∙◌, ◌++◌, ◌∷◌, [], Bool, true, false, Some, get_or, slice_get, arith, ap, refl, length, drop, ◌+◌, subst}
+use Rattle.std.proofs.Common.{◌≡◌, ◌∙◌, [], true, false, Some, slice_get, arith, ap, refl, length}
 use Rattle.std.proofs.lemmas.Option.{slice_get-get_or, slice_get_read}
-use Rattle.refutations.specs.Cones.{placed, sublist}
-use Rattle.refutations.specs.Earlier.{by_places}
+use Rattle.refutations.specs.Cones.{placed}
 use Rattle.refutations.proofs.Sublists.{kept_yes, kept_no, by_places_is}
 use Rattle.refutations.proofs.Naming.{each_more}
 use Rattle.refutations.proofs.cone.sublist.Goals as goal

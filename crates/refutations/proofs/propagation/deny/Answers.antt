@@ -1,6 +1,5 @@
-use Rattle.std.proofs.Common.{◌≡◌, ◌∙◌, arith, sym, ap, not, true, false, length, get_or}
+use Rattle.std.proofs.Common.{◌≡◌, ◌∙◌, arith, sym, ap, not, true, false}
 use Rattle.count_core.specs.Problems.{repeats}
-use Rattle.count_core.specs.Partials.{is_unset}
 use Rattle.refutations.proofs.Values.{deny_met, deny_none, deny_repeats}
 use Rattle.refutations.proofs.propagation.deny.Goals as goal
 

@@ -1,4 +1,4 @@
-use Rattle.std.proofs.Common.{◌≡◌, arith}
+use Rattle.std.proofs.Common.{arith}
 use Rattle.refutations.proofs.Values.{full_conflicts, scarce_conflicts, within_calm, settled_idle, between_idle, full_forces, scarce_forces, full_forced, scarce_forced}
 use Rattle.refutations.proofs.tally.judge.Goals as goal
 use Rattle.refutations.proofs.tally.judge.Goals.{then-trues-hi-via-then-trues-hi, then-trues-hi-via-else-trues-hi+then-possible-lo}

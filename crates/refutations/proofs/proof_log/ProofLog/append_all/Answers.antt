@@ -1,4 +1,4 @@
-use Rattle.std.proofs.Common.{◌≡◌, ◌<◌, ◌^◌, ◌++◌, map, arith, length, subst, sym, length-append}
+use Rattle.std.proofs.Common.{◌≡◌, ◌++◌, map, arith, length, length-append}
 use Rattle.std.proofs.lemmas.List.{length-map}
 use Rattle.count_core.specs.Steps.{AreAccepted}
 use Rattle.refutations.specs.Shifts.{shifted}

@@ -1,4 +1,4 @@
-use Rattle.std.proofs.Common.{◌≡◌, ◌<◌, arith, length}
+use Rattle.std.proofs.Common.{◌<◌, length}
 use Rattle.refutations.proofs.Lasts.{first_refutation}
 use Rattle.refutations.proofs.proof_log.ProofLog.closed.Goals as goal
 

@@ -1,4 +1,4 @@
-use Rattle.std.proofs.Common.{◌≡◌, ◌<◌, IfOk, length}
+use Rattle.std.proofs.Common.{◌<◌, IfOk, length}
 use Rattle.refutations.specs.Cones.{IsCone}
 use Rattle.refutations.proofs.Naming.{accepted_earlier}
 use Rattle.refutations.proofs.Sublists.{cone_lemma, ok_map}

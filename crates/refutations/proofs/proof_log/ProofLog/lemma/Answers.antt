@@ -1,4 +1,4 @@
-use Rattle.std.proofs.Common.{◌≡◌, ◌<◌, arith, length}
+use Rattle.std.proofs.Common.{◌<◌, length}
 use Rattle.refutations.proofs.Lasts.{first_lemma, last_of_first}
 use Rattle.refutations.proofs.proof_log.ProofLog.lemma.Goals as goal
 
