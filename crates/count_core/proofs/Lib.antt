@@ -1,6 +1,7 @@
 pub mod Lists
 pub mod Marks
 pub mod Rules
+pub mod FirstFaults
 pub mod Forcing
 pub mod Soundness
 pub mod Renumbering

@@ -12,7 +12,7 @@ use Rattle.count_core.proofs.Lists.{both_true}
 
 -- ---- rules without a fault
 
-no_fault : (atoms n : ℕ) (r : CountRule) → fault_of atoms n r ≡ None → IsWellFormedRule atoms r
+pub no_fault : (atoms n : ℕ) (r : CountRule) → fault_of atoms n r ≡ None → IsWellFormedRule atoms r
 no_fault atoms n r e = go (are_within atoms r.lits) refl (repeats r.lits) refl (nat_lt r.hi r.lo) refl e
   where
     go : (a : Bool) → are_within atoms r.lits ≡ a → (b : Bool) → repeats r.lits ≡ b → (c : Bool) → nat_lt r.hi r.lo ≡ c → cond a (cond b (Some (RepeatedAtom n)) (cond c (Some (BadBounds n)) None)) (Some (AtomRange n)) ≡ None → IsWellFormedRule atoms r
@@ -21,7 +21,7 @@ no_fault atoms n r e = go (are_within atoms r.lits) refl (repeats r.lits) refl (
     go true isa true isb c isc e = cc
     go false isa b isb c isc e = cc
 
-well_formed_no_fault : (atoms n : ℕ) (r : CountRule) → IsWellFormedRule atoms r → fault_of atoms n r ≡ None
+pub well_formed_no_fault : (atoms n : ℕ) (r : CountRule) → IsWellFormedRule atoms r → fault_of atoms n r ≡ None
 well_formed_no_fault atoms n r h =
     let in_order : nat_lt r.hi r.lo ≡ false = (let le = h.bounds in grind (arith, nat_tests)) in
     rw (h.in_range, h.distinct, in_order)

@@ -1,4 +1,5 @@
 pub mod Problems
+pub mod FirstFaults
 pub mod Assignments
 pub mod Partials
 pub mod Steps

@@ -1,5 +1,13 @@
 ghost use Rattle.count_core.specs.Laws.{AcceptedByConflict, AcceptedClausesFollow, RefutedQuestionsFail};
 ghost use Rattle.count_core.specs.Clash.{ClashTable};
+ghost use Rattle.count_core.specs.FirstFaults.{TellsFirstFault};
+
+/// The fault of rules that is told is the first of the first rule that has one: each rule before it
+/// is well formed, and no fault with a lower number holds of it. There is none exactly where each
+/// rule is well formed. Does nothing.
+pub fn law_first_fault()
+    ensures { TellsFirstFault }
+{}
 
 /// A step is accepted exactly where its literals are over different atoms of the problem and, with
 /// each of them set false, each hint but the last names a rule that forces without a conflict, and

@@ -1,7 +1,7 @@
 use crate::{
     Atom, CoreFault, CountRule, Hint, Hints, Lit, Lits, NoMemory, Problem, Question, SharedProblem,
     Step, Steps, Values, are_distinct, law_accepted_by_conflict, law_accepted_clauses_follow,
-    law_clash_table, law_refuted_questions_fail, satisfied,
+    law_clash_table, law_first_fault, law_refuted_questions_fail, satisfied,
 };
 use std::alloc::Global;
 use std::test::Fail;
@@ -223,4 +223,5 @@ fn shared_problems_and_laws(rt: HostRuntime) {
     law_accepted_clauses_follow();
     law_refuted_questions_fail();
     law_clash_table();
+    law_first_fault();
 }

@@ -1,5 +1,5 @@
 -- Inputs: lines, the head and the command lines (this project's own form).
-use Rattle.std.specs.Prelude.{ℕ, ◌==◌, bytes_eq, codes, Bool, if◌then◌else◌, List, [], ◌∷◌, ◌++◌, map}
+use Rattle.std.specs.Prelude.{◌≡◌, ℕ, ◌==◌, bytes_eq, codes, Bool, if◌then◌else◌, List, [], ◌∷◌, ◌++◌, map}
 
 -- the bytes that were read of a last line that has no line feed
 abbrev pub last_piece : List ℕ → List (List ℕ)
@@ -46,6 +46,10 @@ after_separator (p ∷ ps) = if is_separator p then ps else after_separator ps
 abbrev pub joined : List (List ℕ) → List ℕ
 joined [] = []
 joined (p ∷ ps) = p ++ joined ps
+
+-- The pieces hold each byte once, in order.
+abbrev pub PiecesJoin : Type 0
+PiecesJoin = (bytes : List ℕ) → joined (pieces bytes) ≡ bytes
 
 -- The head is the bytes before the separator line.
 abbrev pub head_of : List ℕ → List ℕ

@@ -1,10 +1,11 @@
-ghost use Rattle.std.specs.Prelude.{◌≡◌, ◌<◌, [], ◌∷◌, ◌++◌, length, MatchOption, IfSome};
-ghost use Rattle.draw_lines.specs.Inputs.{pieces, is_separator, without_last, line_of, lines_of, head_of, command_lines};
+ghost use Rattle.std.specs.Prelude.{◌≡◌, ◌<◌, ◌++◌, [], ◌∷◌, List, ℕ, length, MatchOption, IfSome};
+ghost use Rattle.draw_lines.specs.Inputs.{pieces, after_separator, is_separator, without_last, line_of, lines_of, head_of, command_lines, PiecesJoin};
 
-/// The head of an input, and what follows the separator line. Takes no memory.
+/// The head of an input, and what follows the separator line, byte for byte. Takes no memory.
 pub fn split_input(bytes: &[u8]) -> (&[u8], &[u8])
     ensures head { result.0.now ≡ head_of bytes.now }
     ensures rest { lines_of result.1.now ≡ command_lines bytes.now }
+    ensures after { pieces result.1.now ≡ after_separator (pieces bytes.now) }
 {
     let mut at = 0;
     let mut rest = bytes;
@@ -22,6 +23,7 @@ pub fn split_input(bytes: &[u8]) -> (&[u8], &[u8])
 /// Takes no memory.
 pub fn first_line(bytes: &[u8]) -> Option<(&[u8], &[u8])>
     ensures lines { MatchOption result (bytes.now ≡ []) (λ cut. lines_of bytes.now ≡ cut.0.now ∷ lines_of cut.1.now) }
+    ensures cut { IfSome result (λ cut. (piece : List ℕ) × (pieces bytes.now ≡ piece ∷ pieces cut.1.now) × (cut.0.now ≡ line_of piece)) }
     ensures shorter { IfSome result (λ cut. length cut.1.now < length bytes.now) }
 {
     let (piece, rest) = first_piece(bytes)?;
@@ -70,3 +72,8 @@ fn without_last(bytes: &[u8], byte: u8) -> &[u8]
         _ => bytes,
     }
 }
+
+/// The pieces of bytes, one a line with its end, hold each byte once, in order. Does nothing.
+pub fn law_pieces_join()
+    ensures { PiecesJoin }
+{}

@@ -7,7 +7,6 @@ pub mod Passing
 pub mod Cases
 pub mod Judged
 pub mod Items
-pub mod CodeForms
 pub mod TextsRead
 pub mod Halves
 pub mod TablesRead

@@ -2,7 +2,7 @@
 use Rattle.std.proofs.Common.{◌≡◌, ℕ, zero, suc, ◌+◌, ◌≤◌, List, [], ◌∷◌, ◌++◌, length, Option, Some, None, arith, sym, ap, ◌∙◌}
 use Rattle.std.specs.Prelude.{option_map}
 use Rattle.team_files.specs.declared.team_id.TeamId.{TeamId}
-use Rattle.rule_sets.specs.Files.{DrawFile, IsWellFormed}
+use Rattle.rule_sets.specs.Files.{DrawFile}
 use Rattle.rule_sets.specs.Forms.{HasForm, FilesHaveForm}
 use Rattle.draw_tables.specs.declared.pair_table.PairTable.{PairTable}
 use Rattle.draw_tables.specs.declared.table.Table.{Table}
@@ -11,7 +11,6 @@ use Rattle.draw_tables.specs.Pots.{runners_up, AreTeamsOf}
 use Rattle.draw_tables.specs.TableTexts.{IsTextOf, OneTableOfText}
 use Rattle.draw_tables.specs.Reading.{teams_in}
 use Rattle.draw_tables.proofs.Counts.{same_item}
-use Rattle.draw_tables.proofs.CodeForms.{have_codes}
 use Rattle.draw_tables.proofs.Halves.{half}
 use Rattle.draw_tables.proofs.TextsRead.{AllWithin, read_has_text, text_is_read}
 
@@ -29,15 +28,15 @@ read_is_text file pairs more bytes size e =
     let h = read_has_text file.teams more bytes pairs.winners e in
     record { of_file = record { size = h.size ∙ size; teams = are_teams file pairs.winners h.within }; text = h.text }
 
-pub text_gives : (file : DrawFile) (pairs : PairTable) (more : ℕ) (bytes : List ℕ) → IsWellFormed file → HasForm file → more + 1 ≡ length (runners_up file)
+pub text_gives : (file : DrawFile) (pairs : PairTable) (more : ℕ) (bytes : List ℕ) → HasForm file → more + 1 ≡ length (runners_up file)
     → IsTextOf file (Pairs pairs) bytes → teams_in file.teams more bytes ≡ Some pairs.winners
-text_gives file pairs more bytes formed form size h =
-    text_is_read file.teams (have_codes file formed) form.distinct_codes more bytes pairs.winners
+text_gives file pairs more bytes form size h =
+    text_is_read file.teams form.codes form.distinct_codes more bytes pairs.winners
     (record { size = h.of_file.size ∙ sym size; within = are_within file pairs.winners h.of_file.teams; text = h.text })
 
-pub no_text : (file : DrawFile) (table : Table) (more : ℕ) (bytes : List ℕ) → IsWellFormed file → HasForm file → more + 1 ≡ length (runners_up file)
+pub no_text : (file : DrawFile) (table : Table) (more : ℕ) (bytes : List ℕ) → HasForm file → more + 1 ≡ length (runners_up file)
     → teams_in file.teams more bytes ≡ None → IsTextOf file table bytes → ⊥
-no_text file (Pairs pairs) more bytes formed form size none h = let some = text_gives file pairs more bytes formed form size h in cc
+no_text file (Pairs pairs) more bytes form size none h = let some = text_gives file pairs more bytes form size h in cc
 
 -- the list that was read, in a vector that was empty before
 pub read_first : (front ts : List TeamId) (o : Option (List TeamId)) → front ≡ [] → option_map (λ us. front ++ us) o ≡ Some ts → o ≡ Some ts
@@ -55,7 +54,7 @@ pub one_table_of_text : FilesHaveForm → OneTableOfText
 one_table_of_text forms file (Pairs one) (Pairs other) bytes formed h g =
     let form = forms file formed in
     let more = one_before (length (runners_up file)) (half file form).1 in
-    let a = text_gives file one more.0 bytes formed form more.1 h in
-    let b = text_gives file other more.0 bytes formed form more.1 g in
+    let a = text_gives file one more.0 bytes form more.1 h in
+    let b = text_gives file other more.0 bytes form more.1 g in
     let same : one.winners ≡ other.winners = same_item one.winners other.winners (sym a ∙ b) in
     ap (λ ts. Pairs (record { winners = ts })) same

@@ -1,17 +1,18 @@
 -- What is read of a text has that text, and what has a text is read of it.
 use Rattle.std.proofs.Common.{◌≡◌, ℕ, zero, suc, ◌+◌, ◌<◌, Bool, true, false, List, [], ◌∷◌, ◌++◌, length, take, drop, Option, Some, None, slice_get, arith, refl, sym, ap, ◌∙◌}
 use Rattle.std.specs.Prelude.{◌==◌, if◌then◌else◌, bytes_eq, option_map, option_and_then}
-use Rattle.std.specs.List.{list_all}
+use Rattle.std.specs.List.{All, list_all}
 use Rattle.std.proofs.lemmas.Bool.{and_parts}
+use Rattle.std.proofs.lemmas.List.Elements.{All-head, All-tail}
 use Rattle.std.proofs.lemmas.Slice.Eq.{bytes_eq-Decides}
 use Rattle.team_files.specs.declared.team.Team.{Team}
 use Rattle.team_files.specs.declared.team_id.TeamId.{TeamId}
 use Rattle.team_files.specs.Characters.{is_code, is_code_character}
 use Rattle.team_files.specs.Teams.{find, find_from, HaveDistinctCodes}
+use Rattle.rule_sets.specs.Forms.{HasCode}
 use Rattle.draw_tables.specs.Reading.{front_team, spaced_team, spaced_teams, teams_in}
 use Rattle.draw_tables.specs.TableTexts.{code_in, code_of, spaced, codes_text}
 use Rattle.draw_tables.proofs.Counts.{same_item, same_by_test}
-use Rattle.draw_tables.proofs.CodeForms.{HaveCodes}
 
 -- ---- three characters in front
 
@@ -29,20 +30,25 @@ front_and_rest zero bytes = refl
 front_and_rest (suc n) [] = refl
 front_and_rest (suc n) (b ∷ bytes) = ap (λ xs. b ∷ xs) (front_and_rest n bytes)
 
+coded_at : (ts : List Team) (k : ℕ) (t : Team) → All HasCode ts → slice_get ts k ≡ Some t → HasCode t
+coded_at [] k t h e = cc
+coded_at (u ∷ ts) zero t h e = let same : u ≡ t = cc in rw (← same) (All-head HasCode u ts h)
+coded_at (u ∷ ts) (suc k) t h e = coded_at ts k t (All-tail HasCode u ts h) e
+
 -- ---- the team with a code
 
-pub record HasCode (teams : List Team) (code : List ℕ) (at : ℕ) : Type 0 where
+pub record StandsAt (teams : List Team) (code : List ℕ) (at : ℕ) : Type 0 where
   pub team : Team
   pub stands : slice_get teams at ≡ Some team
   pub coded : team.code ≡ code
 
-found_coded : (code : List ℕ) (ts : List Team) (n : ℕ) (id : TeamId) → find_from code ts n ≡ Some id → (k : ℕ) × (id.0 ≡ n + k) × HasCode ts code k
+found_coded : (code : List ℕ) (ts : List Team) (n : ℕ) (id : TeamId) → find_from code ts n ≡ Some id → (k : ℕ) × (id.0 ≡ n + k) × StandsAt ts code k
 found_coded code [] n id e = cc
 found_coded code (t ∷ ts) n id e = go (bytes_eq t.code code) refl e (found_coded code ts (n + 1) id)
   where
     go : (b : Bool) → bytes_eq t.code code ≡ b → (if b then Some (record { 0 = n }) else find_from code ts (n + 1)) ≡ Some id
-        → (find_from code ts (n + 1) ≡ Some id → (k : ℕ) × (id.0 ≡ (n + 1) + k) × HasCode ts code k)
-        → (k : ℕ) × (id.0 ≡ n + k) × HasCode (t ∷ ts) code k
+        → (find_from code ts (n + 1) ≡ Some id → (k : ℕ) × (id.0 ≡ (n + 1) + k) × StandsAt ts code k)
+        → (k : ℕ) × (id.0 ≡ n + k) × StandsAt (t ∷ ts) code k
     go true is h later =
         let s : n ≡ id.0 = ap (λ (x : TeamId). x.0) (same_item (record { 0 = n }) id h) in
         (0, omega arith, record { team = t; stands = refl; coded = (bytes_eq-Decides t.code code).0 is })
@@ -97,7 +103,7 @@ front_gives teams bytes t e = go (is_code (take 3 bytes)) e
         record { within = lt; text = ap (λ xs. xs ++ drop 3 bytes) code ∙ front_and_rest 3 bytes }
     go false h = cc
 
-module _ (teams : List Team) (coded : HaveCodes teams) (distinct : HaveDistinctCodes teams) where
+module _ (teams : List Team) (coded : All HasCode teams) (distinct : HaveDistinctCodes teams) where
   team_at : (n : ℕ) (ts : List Team) → n < length ts → (t : Team) × (slice_get ts n ≡ Some t)
   team_at n [] lt = absurd (omega arith)
   team_at zero (t ∷ ts) lt = (t, refl)
@@ -107,7 +113,7 @@ module _ (teams : List Team) (coded : HaveCodes teams) (distinct : HaveDistinctC
   front_is t rest lt =
       let team = team_at t.0 teams lt in
       let is : code_of teams t ≡ team.0.code = ap code_in team.1 in
-      let form = coded t.0 team.0 team.1 in
+      let form = coded_at teams t.0 team.0 coded team.1 in
       let front = front_of 3 team.0.code rest (three team.0.code form) in
       let found = is_found team.0.code teams 0 t.0 team.0 distinct team.1 refl in
       let place : 0 + t.0 ≡ t.0 = omega arith in
@@ -179,7 +185,7 @@ read_has_text teams more bytes ts e =
 give_both : {A B C : Type 0} (o : Option A) (next : A → Option B) (f : A → B → C) (a : A) (b : B) → o ≡ Some a → next a ≡ Some b → option_and_then (λ x. option_map (λ y. f x y) (next x)) o ≡ Some (f a b)
 give_both o next f a b e h = rw (e, h) refl
 
-module _ (teams : List Team) (coded : HaveCodes teams) (distinct : HaveDistinctCodes teams) where
+module _ (teams : List Team) (coded : All HasCode teams) (distinct : HaveDistinctCodes teams) where
   all_read : (ts : List TeamId) → AllWithin teams ts → spaced_teams teams (length ts) (spaced teams ts) ≡ Some ts
   all_read [] h = refl
   all_read (t ∷ ts) h =

@@ -1,20 +1,15 @@
-use crate::tests::{ROUND_OF_16, TWO_TEAMS};
+use crate::tests::{ROUND_OF_16, TWO_TEAMS, file_of};
 use count_core::{Atom, Lit, satisfied};
 use draw_state::State;
 use draw_tables::{Move, Table};
 use pairing_draw::{decode, encode, lits_of};
-use rule_sets::{DrawFile, rules_from};
+use rule_sets::DrawFile;
 use std::alloc::{AllocError, Global};
 use std::test::Fail;
-use team_files::{FileFault, TeamId, read_head};
+use team_files::TeamId;
 
 /// The places of the winners in their pot, runner-up by runner-up, as they were drawn in 2021/22.
 const DRAWN: [usize; 8] = [3, 5, 0, 1, 2, 7, 4, 6];
-
-fn file_of(alloc: Global, head: &str) -> Result<DrawFile, FileFault> {
-    let head = read_head(alloc, head.as_bytes())?;
-    rules_from(alloc, head)
-}
 
 /// The table that values make, where they satisfy the file's rules.
 fn decoded(alloc: Global, file: &DrawFile, values: &[bool]) -> Result<Option<Table>, AllocError> {

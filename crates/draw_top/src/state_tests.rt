@@ -1,21 +1,15 @@
-use crate::tests::{ROUND_OF_16, TWO_TEAMS};
+use crate::tests::{ROUND_OF_16, TWO_TEAMS, file_of};
 use crate::turn::Turn;
 use draw_lines::{read_line, reply_text};
 use draw_state::{State, StateFault};
 use draw_tables::{Choice, Move, Phase};
-use rule_sets::{DrawFile, rules_from};
 use std::alloc::{AllocError, Global};
 use std::test::Fail;
-use team_files::{FileFault, TeamId, read_head};
+use team_files::TeamId;
 
 const WINNER: TeamId = TeamId(0);
 
 const RUNNER: TeamId = TeamId(1);
-
-fn file_of(alloc: Global, head: &str) -> Result<DrawFile, FileFault> {
-    let head = read_head(alloc, head.as_bytes())?;
-    rules_from(alloc, head)
-}
 
 /// Whether the state's phase has just this candidate, and the other team's ball is no candidate.
 fn has_candidate(
@@ -117,7 +111,7 @@ fn is_copied_reply(
     Ok(text.as_slice() == wanted.as_bytes())
 }
 
-/// Some balls of a draw, each reply told from a copy.
+/// The balls of the round of 16 of 2021/22 and two that are refused, each reply told from a copy.
 #[test]
 fn replies_are_copied(rt: HostRuntime) -> Result<(), Fail> {
     let alloc = rt.alloc();
@@ -133,10 +127,36 @@ fn replies_are_copied(rt: HostRuntime) -> Result<(), Fail> {
             "paired RBS BAY\nnext runner-up: PSG ATM SCP INT BEN VIL CHE\n",
         ),
         (
-            "ball VIL",
-            "drawn VIL\nnext opponent VIL: MCI LIV AJX LIL JUV\n",
+            "ball SCP",
+            "drawn SCP\nnext opponent SCP: MCI LIV RMA MUN LIL JUV\n",
         ),
-        ("ball MUN", "refused excluded\n"),
+        (
+            "ball MCI",
+            "paired SCP MCI\nnext runner-up: PSG ATM INT BEN VIL CHE\n",
+        ),
+        (
+            "ball BEN",
+            "drawn BEN\nnext opponent BEN: LIV AJX RMA MUN LIL JUV\n",
+        ),
+        (
+            "ball AJX",
+            "paired BEN AJX\nnext runner-up: PSG ATM INT VIL CHE\n",
+        ),
+        ("ball CHE", "drawn CHE\nnext opponent CHE: RMA LIL\n"),
+        (
+            "ball LIL",
+            "paired CHE LIL\nnext runner-up: PSG ATM INT VIL\n",
+        ),
+        ("ball PSG", "drawn PSG\nnext opponent PSG: RMA\n"),
+        ("ball LIV", "refused excluded\n"),
+        ("ball RMA", "paired PSG RMA\nnext runner-up: ATM INT VIL\n"),
+        ("ball ATM", "drawn ATM\nnext opponent ATM: MUN JUV\n"),
+        ("ball MUN", "paired ATM MUN\nnext runner-up: INT VIL\n"),
+        ("ball INT", "drawn INT\nnext opponent INT: LIV\n"),
+        ("ball LIV", "paired INT LIV\nnext runner-up: VIL\n"),
+        ("ball VIL", "drawn VIL\nnext opponent VIL: JUV\n"),
+        ("ball JUV", "paired VIL JUV\ncomplete\n"),
+        ("ball PSG", "refused complete\n"),
     ] {
         assert!(rt; is_copied_reply(alloc, &mut turn, line, wanted)?, "{line}");
     }

@@ -20,7 +20,7 @@ use Rattle.team_files.proofs.HeadLaws.{gave, parts, few_pairs}
 use Rattle.team_files.proofs.CodeLaws.{distinct}
 use Rattle.rule_sets.specs.declared.pair.Pair.{Pair}
 use Rattle.rule_sets.specs.Files.{file_with, team_named, pair_at, pair_of, pairs_from}
-use Rattle.rule_sets.specs.Forms.{IsInPot, NamesTwoTeams, HasForm, FilesHaveForm}
+use Rattle.rule_sets.specs.Forms.{HasCode, IsInPot, NamesTwoTeams, HasForm, FilesHaveForm}
 
 -- ---- the pots
 
@@ -83,6 +83,25 @@ pots i (d ∷ ds) fs ts e h =
     let all : ts ≡ team.0 ∷ teams.0 = cc in
     let stands : IsInPot team.0 = rw (team_pot i first.0 team.0 team.1) (fields_pot d first.0 first.1) in
     rw all (All-cons IsInPot team.0 teams.0 stands (pots (i + 1) ds rest.0 teams.0 rest.1 teams.1))
+
+-- ---- the codes
+
+coded : (i : ℕ) (f : TeamFields) (t : Team) → team_of i f ≡ Ok t → HasCode t
+coded i f t e = go (is_code f.code) refl e
+  where
+    go : (b : Bool) → is_code f.code ≡ b
+        → (if b then Ok (record { code = f.code; name = name_of f.code f.name; pot = f.pot; tags = f.tags; group_letter = Some f.group_letter }) else Err (FileFault.BadCode i)) ≡ Ok t
+        → HasCode t
+    go true is h = let same : f.code ≡ t.code = cc in ap is_code (sym same) ∙ is
+    go false is h = cc
+
+all_coded : (i : ℕ) (fs : List TeamFields) (ts : List Team) → teams_from i fs ≡ Ok ts → All HasCode ts
+all_coded i [] ts e = let none : ts ≡ [] = cc in rw none (All-nil HasCode)
+all_coded i (f ∷ fs) ts e =
+    let team = gave (team_of i f) _ ts e in
+    let teams = gave (teams_from (i + 1) fs) _ ts team.2 in
+    let all : ts ≡ team.0 ∷ teams.0 = cc in
+    rw all (All-cons HasCode team.0 teams.0 (coded i f team.0 team.1) (all_coded (i + 1) fs teams.0 teams.1))
 
 -- ---- the numbers of teams and of pairs
 
@@ -215,6 +234,7 @@ form_of d head pairs e h =
       limits = refl;
       places = refl;
       few_teams = rw (teams_size 0 fields.teams head.teams made) (few_teams fields read.few);
+      codes = all_coded 0 fields.teams head.teams made;
       distinct_codes = distinct head.teams (rw teams at read.distinct);
       in_pots = teams_in_pots d fields head.teams read.fields_are made;
       not_empty = size.0;

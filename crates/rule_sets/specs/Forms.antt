@@ -1,12 +1,17 @@
 -- The form of a draw file: what can be read off the file alone.
-use Rattle.std.specs.Prelude.{◌≡◌, ◌≢◌, ◌<◌, ◌≤◌, ◌⊎◌, List, [], length}
+use Rattle.std.specs.Prelude.{◌≡◌, ◌≢◌, ◌<◌, ◌≤◌, ◌⊎◌, true, List, [], length}
 use Rattle.std.specs.List.{All}
 use Rattle.team_files.specs.declared.kind.Kind.{Kind}
 use Rattle.team_files.specs.declared.team.Team.{Team}
+use Rattle.team_files.specs.Characters.{is_code}
 use Rattle.team_files.specs.Teams.{HaveDistinctCodes}
 use Rattle.team_files.specs.Heads.{pot_size}
 use Rattle.rule_sets.specs.declared.pair.Pair.{Pair}
 use Rattle.rule_sets.specs.Files.{DrawFile, IsWellFormed}
+
+-- the team's code is three characters A to Z or 0 to 9
+abbrev pub HasCode : Team → Type 0
+HasCode team = is_code team.code ≡ true
 
 -- the team stands in pot 1, with the winners, or in pot 2, with the runners-up
 abbrev pub IsInPot : Team → Type 0
@@ -26,8 +31,9 @@ pub record HasForm (file : DrawFile) : Type 0 where
   pub pots : file.pots ≡ 2
   pub limits : file.limits ≡ []
   pub places : file.places ≡ []
-  -- it has at most 40 teams, and no two have one code
+  -- it has at most 40 teams, each with a code, and no two have one code
   pub few_teams : length file.teams ≤ 40
+  pub codes : All HasCode file.teams
   pub distinct_codes : HaveDistinctCodes file.teams
   -- each team stands in a pot; pot 1 is not empty, and pot 2 is of its size
   pub in_pots : All IsInPot file.teams

@@ -6,7 +6,7 @@ use Rattle.draw_tables.proofs.table_reading.read_table.Goals as goal
 pub returns-in_err-read_teams-clause-not_table : goal.returns-in_err-read_teams-clause-not_table
 returns-in_err-read_teams-clause-not_table c = λ e table h.
     let none : teams_in c.teams.result.now c.runners_after_first-more.result c.args.bytes.now ≡ None = search rules in
-    no_text c.args.file.now table c.runners_after_first-more.result c.args.bytes.now c.expect_form.ensures.formed c.expect_form.ensures.form c.runners_after_first-more.ensures (rw c.teams.ensures at none) h
+    no_text c.args.file.now table c.runners_after_first-more.result c.args.bytes.now c.expect_form.ensures.form c.runners_after_first-more.ensures (rw c.teams.ensures at none) h
 
 pub returns-clause-ok : goal.returns-clause-ok
 returns-clause-ok c =
