@@ -1,6 +1,6 @@
 ghost use Rattle.std.specs.Prelude.{◌≡◌};
 
-use crate::{Closed, LogFault, NoMemory, ProofLog};
+use crate::{Closed, Lemma, LogFault, NoMemory, ProofLog};
 use count_core::{
     Atom, CountRule, Hint, Lit, Lits, Problem, Question, SharedProblem, Step, are_distinct,
 };
@@ -68,21 +68,23 @@ const RENUMBERED: Line<'static> = (&[], &[Hint::Step(0), Hint::Step(1), Hint::Ru
 /// What it rests on.
 const CONE: [Line<'static>; 3] = [NOT_0, NOT_2, RENUMBERED];
 
+/// The positive literals of these atoms.
+fn lits_of(alloc: Global, atoms: &[u32]) -> Result<Vec<Lit>, NoMemory> {
+    let mut lits = Vec::new(alloc);
+    for atom in atoms {
+        lits.push(Lit {
+            atom: Atom(*atom),
+            positive: true,
+        })?;
+    }
+    Ok(lits)
+}
+
 fn rules_of(alloc: Global) -> Result<Vec<CountRule>, NoMemory> {
     let mut rules = Vec::new(alloc);
     for (atoms, lo, hi) in CLASH {
-        let mut lits = Vec::new(alloc);
-        for atom in atoms {
-            lits.push(Lit {
-                atom: Atom(*atom),
-                positive: true,
-            })?;
-        }
-        rules.push(CountRule {
-            lits: Lits::new(lits),
-            lo,
-            hi,
-        })?;
+        let lits = Lits::new(lits_of(alloc, atoms)?);
+        rules.push(CountRule { lits, lo, hi })?;
     }
     Ok(rules)
 }
@@ -108,10 +110,10 @@ fn add_line(alloc: Global, log: &mut ProofLog, line: Line<'_>) -> Result<u32, Lo
     log.add(alloc, clause, hints)
 }
 
-/// A log of the first of `STEPS`, or none where one is not accepted.
-fn log_of(alloc: Global, number: usize) -> Option<ProofLog> {
+/// A log of these lines, or none where one is not accepted.
+fn log_of(alloc: Global, lines: &[Line<'_>]) -> Option<ProofLog> {
     let mut log = ProofLog::new(alloc, clash(alloc)?);
-    for line in STEPS.iter().take(number) {
+    for line in lines {
         let _number = add_line(alloc, &mut log, *line).ok()?;
     }
     Some(log)
@@ -161,7 +163,7 @@ const CASES: [(u32, Line<'static>, Option<u32>); 17] = [
 /// Whether a log of so many steps answers so to the line: with the number of the step, or with the
 /// failing hint, and then it stays as it is.
 fn answers(alloc: Global, before: u32, line: Line<'_>, fails: Option<u32>) -> Option<bool> {
-    let mut log = log_of(alloc, before as usize)?;
+    let mut log = log_of(alloc, STEPS.get(..before as usize)?)?;
     let answer = add_line(alloc, &mut log, line);
     let added = log.steps().len() > before as usize;
     match fails {
@@ -190,16 +192,21 @@ fn shared<T: Send + Sync>(value: T) -> T {
     value
 }
 
-/// The clause's length and the steps of a copy of the lemma at this step.
-fn lemma_is(alloc: Global, step: u32, clause: &[Lit], lines: &[Line<'_>]) -> Option<bool> {
-    let log = shared(log_of(alloc, 4)?);
+/// A copy of the log's lemma at this step.
+fn lemma_of(alloc: Global, log: &ProofLog, step: u32) -> Option<Lemma> {
     if step as usize >= log.steps().len() {
         return None;
     }
     let lemma = log.lemma(alloc, step).ok()?;
-    let copy = shared(lemma.clone_in(alloc).ok()?);
-    let same = copy.problem().equals(log.problem());
-    Some(same && copy.clause() == clause && are(copy.steps(), lines))
+    lemma.clone_in(alloc).ok()
+}
+
+/// Whether the copied lemma at this step has this clause and these steps, over the log's problem.
+fn lemma_is(alloc: Global, step: u32, clause: &[Lit], lines: &[Line<'_>]) -> Option<bool> {
+    let log = shared(log_of(alloc, &STEPS)?);
+    let lemma = shared(lemma_of(alloc, &log, step)?);
+    let same = lemma.problem().equals(log.problem());
+    Some(same && lemma.clause() == clause && are(lemma.steps(), lines))
 }
 
 #[test]
@@ -225,7 +232,7 @@ fn question_of(alloc: Global, lits: &[Lit]) -> Option<Question> {
 
 /// The question closed by the empty clause.
 fn closed_of(alloc: Global, lits: &[Lit]) -> Option<Closed> {
-    let mut log = log_of(alloc, 3)?;
+    let mut log = log_of(alloc, &STEPS[..3])?;
     let number = log.add(alloc, &[], NOTHING.1).ok()?;
     let question = question_of(alloc, lits)?;
     let closed = log.closed(alloc, number, &question).ok()?;
@@ -247,7 +254,7 @@ fn closed_questions(rt: HostRuntime) {
 }
 
 fn cone_is(alloc: Global, step: u32, lines: &[Line<'_>]) -> Option<bool> {
-    let log = log_of(alloc, 4)?;
+    let log = log_of(alloc, &STEPS)?;
     if step as usize >= log.steps().len() {
         return None;
     }
@@ -263,15 +270,18 @@ fn cones(rt: HostRuntime) {
     }
 }
 
+/// The shift with which the other log's steps are put behind, where both are of one problem.
+fn shift_of(alloc: Global, log: &mut ProofLog, other: &ProofLog) -> Option<u32> {
+    if !log.problem().equals(other.problem()) {
+        return None;
+    }
+    log.append_all(alloc, other).ok()
+}
+
 fn joined(alloc: Global) -> Option<(u32, bool)> {
-    let problem = clash(alloc)?;
-    let mut log = ProofLog::new(alloc, SharedProblem::try_clone(&problem).ok()?);
-    let mut other = ProofLog::new(alloc, problem);
-    let _first = add_line(alloc, &mut log, NOT_4).ok()?;
-    let _second = add_line(alloc, &mut other, NOT_0).ok()?;
-    let _third = add_line(alloc, &mut other, NOT_2).ok()?;
-    let _fourth = add_line(alloc, &mut other, RENUMBERED).ok()?;
-    let shift = log.append_all(alloc, &other).ok()?;
+    let mut log = log_of(alloc, &[NOT_4])?;
+    let other = log_of(alloc, &CONE)?;
+    let shift = shift_of(alloc, &mut log, &other)?;
     let want = [
         NOT_4,
         NOT_0,
