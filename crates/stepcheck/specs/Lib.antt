@@ -1,2 +1,5 @@
 pub mod Statuses
+pub mod ListTexts
+pub mod Fronts
+pub mod Runs
 pub mod Verdicts

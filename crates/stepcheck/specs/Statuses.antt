@@ -1,5 +1,5 @@
 -- The numbers of the statuses.
-use Rattle.std.specs.Prelude.{ℕ, Bool, true, false}
+use Rattle.std.specs.Prelude.{ℕ}
 use Rattle.stepcheck.specs.declared.status.Status.{Status}
 use Rattle.stepcheck.specs.declared.status.Status.TheVariants.{Accepted, Usage, Refused, ReadFault, WriteFault, NoMemory, TooLong, Bad}
 
@@ -12,14 +12,3 @@ status_number WriteFault = 4
 status_number NoMemory = 5
 status_number TooLong = 6
 status_number Bad = 7
-
--- the statuses that come with a line
-abbrev pub has_line : Status → Bool
-has_line Accepted = true
-has_line Usage = true
-has_line Refused = true
-has_line ReadFault = false
-has_line WriteFault = false
-has_line NoMemory = false
-has_line TooLong = false
-has_line Bad = true

@@ -1,6 +1,10 @@
-use crate::words::{hint_of, lit_of, small_number_of};
-use count_core::{CountRule, Hints, Lits, Step};
-use std::alloc::Global;
+ghost use Rattle.std.specs.Prelude.{◌≡◌, ◌+◌, ◌<◌, ◌≤◌, ℕ, length, IfOk, IsErrOf};
+ghost use Rattle.stepcheck.specs.ListTexts.{IsListText, IsNoListText, IsFirstWrongLine};
+ghost use Rattle.stepcheck.specs.Fronts.{AreRulesAt, AreStepsAt};
+
+use crate::lines::{atoms_at, rule_at, step_at};
+use count_core::{CountRule, Step};
+use std::alloc::{AllocError, Global};
 
 /// A problem's atoms and rules, and steps, as a text lists them. Nothing is promised of them.
 #[derive(Drop)]
@@ -18,100 +22,59 @@ pub(crate) enum ListFault {
     NoMemory,
 }
 
-/// Why a line can't be taken.
-#[derive(Clone, Copy, Debug, PartialEq, Eq)]
-pub(crate) enum LineFault {
-    Form,
-    NoMemory,
-}
-
 impl Listing {
     /// What the text lists: a line of the number of atoms, then one for each rule, then one for
     /// each step, each ended by a line feed.
-    pub(crate) fn read(alloc: Global, text: &[u8]) -> Result<Listing, ListFault> {
-        let (lines, whole) = match text {
-            [lines @ .., b'\n'] => (lines, true),
-            _ => (text, false),
+    pub(crate) fn read(alloc: Global, text: &[u8]) -> Result<Listing, ListFault>
+        ensures ok { IfOk result (λ list. IsListText list.atoms list.rules.items list.steps.items text.now) }
+        ensures none { (line : ℕ) → IsErrOf result (ListFault.Line line) → IsNoListText text.now }
+        ensures first { (line : ℕ) → IsErrOf result (ListFault.Line line) → IsFirstWrongLine text.now line }
+    {
+        let Some((atoms, left)) = atoms_at(text) else {
+            return Err(ListFault::Line(1));
         };
-        let mut listing = Listing {
-            atoms: 0,
-            rules: Vec::new(alloc),
-            steps: Vec::new(alloc),
+        let Ok((rules, left)) = rules_at(alloc, left) else {
+            return Err(ListFault::NoMemory);
         };
-        let mut last: u64 = 0;
-        for line in lines.split(|byte| *byte == b'\n') {
-            last = last.saturating_add(1);
-            match listing.add_line(alloc, last, line) {
-                Ok(()) => {}
-                Err(LineFault::Form) => return Err(ListFault::Line(last)),
-                Err(LineFault::NoMemory) => return Err(ListFault::NoMemory),
-            }
+        let Ok((steps, left)) = steps_at(alloc, left) else {
+            return Err(ListFault::NoMemory);
+        };
+        if !left.is_empty() {
+            let line = rules.len() + steps.len() + 2;
+            return Err(ListFault::Line(line as u64));
         }
-        if !whole {
-            return Err(ListFault::Line(last));
-        }
-        Ok(listing)
-    }
-
-    /// Takes one more line, with its number from 1. The atoms are told by the first alone, and no
-    /// rule comes after a step.
-    fn add_line(&mut self, alloc: Global, number: u64, line: &[u8]) -> Result<(), LineFault> {
-        match line {
-            [b'p', b' ', atoms @ ..] if number == 1 => {
-                self.atoms = small_number_of(atoms)?;
-                Ok(())
-            }
-            [b'r', b' ', words @ ..] if number > 1 && self.steps.is_empty() => {
-                let rule = read_rule(alloc, words)?;
-                push(&mut self.rules, rule)
-            }
-            [b's', b' ', words @ ..] if number > 1 => {
-                let step = read_step(alloc, words)?;
-                push(&mut self.steps, step)
-            }
-            _ => Err(LineFault::Form),
-        }
+        Ok(Listing {
+            atoms,
+            rules,
+            steps,
+        })
     }
 }
 
-/// The rule of these words: `lo`, `hi`, and its literals.
-fn read_rule(alloc: Global, text: &[u8]) -> Result<CountRule, LineFault> {
-    let mut words = text.split(|byte| *byte == b' ');
-    let lo = small_number_of(words.next().unwrap_or(&[]))?;
-    let hi = small_number_of(words.next().unwrap_or(&[]))?;
-    let mut lits = Vec::new(alloc);
-    for word in words {
-        push(&mut lits, lit_of(word)?)?;
+/// The rules whose lines the text begins with, and what follows those.
+fn rules_at(alloc: Global, text: &[u8]) -> Result<(Vec<CountRule>, &[u8]), AllocError>
+    ensures text { IfOk result (λ cut. AreRulesAt text.now cut.0.items cut.1.now) }
+    ensures many { IfOk result (λ cut. length cut.0.items + length cut.1.now ≤ length text.now) }
+{
+    let mut rules = Vec::new(alloc);
+    let mut left = text;
+    while let Some((rule, rest)) = rule_at(alloc, left)? {
+        rules.push(rule)?;
+        left = rest;
     }
-    let lits = Lits::new(lits);
-    Ok(CountRule { lits, lo, hi })
+    Ok((rules, left))
 }
 
-/// The step of these words: the literals of its clause, a slash, and its hints.
-fn read_step(alloc: Global, text: &[u8]) -> Result<Step, LineFault> {
-    let mut clause = Vec::new(alloc);
-    let mut hints = Vec::new(alloc);
-    let mut in_hints = false;
-    for word in text.split(|byte| *byte == b' ') {
-        if in_hints {
-            push(&mut hints, hint_of(word)?)?;
-        } else if matches!(word, [b'/']) {
-            in_hints = true;
-        } else {
-            push(&mut clause, lit_of(word)?)?;
-        }
+/// The steps whose lines the text begins with, and what follows those.
+fn steps_at(alloc: Global, text: &[u8]) -> Result<(Vec<Step>, &[u8]), AllocError>
+    ensures text { IfOk result (λ cut. AreStepsAt text.now cut.0.items cut.1.now) }
+    ensures many { IfOk result (λ cut. length cut.0.items + length cut.1.now ≤ length text.now) }
+{
+    let mut steps = Vec::new(alloc);
+    let mut left = text;
+    while let Some((step, rest)) = step_at(alloc, left)? {
+        steps.push(step)?;
+        left = rest;
     }
-    if !in_hints {
-        return Err(LineFault::Form);
-    }
-    let clause = Lits::new(clause);
-    let hints = Hints::new(hints);
-    Ok(Step { clause, hints })
-}
-
-fn push<T: Drop>(list: &mut Vec<T>, item: T) -> Result<(), LineFault> {
-    match list.push(item) {
-        Ok(()) => Ok(()),
-        Err(_) => Err(LineFault::NoMemory),
-    }
+    Ok((steps, left))
 }

@@ -5,6 +5,7 @@ ghost use Rattle.std.specs.Prelude.{◌≡◌};
 ghost use Rattle.std.specs.Process.{exit_status};
 ghost use Rattle.stepcheck.specs.Statuses.{status_number};
 
+mod lines;
 mod listing;
 mod running;
 mod status;

@@ -1,30 +1,167 @@
-ghost use Rattle.std.specs.Prelude.{◌≡◌, true, IfOk, string_bytes};
-ghost use Rattle.draw_ports.specs.Causes.{Rose};
-ghost use Rattle.stepcheck.specs.Statuses.{has_line};
-ghost use Rattle.stepcheck.specs.Verdicts.{verdict_of, verdict_line, verdict_status};
+ghost use Rattle.std.specs.Prelude.{◌≡◌, ◌≢◌, ◌⊎◌, ℕ, IfOk, IsErrOf, MatchOption, string_bytes};
+ghost use Rattle.std.specs.Io.KnownBytes.{Appends, Keeps, IsAtEnd};
+ghost use Rattle.draw_ports.specs.Causes.{Rose, AppendsSome};
+ghost use Rattle.stepcheck.specs.ListTexts.{IsNoListText, IsFirstWrongLine};
+ghost use Rattle.stepcheck.specs.Runs.{words_of, AreLimit, HaveLimit, usage_line, bad_line, no_list_line, fault_line, IsCountableList, IsUncountableText, GainsApproval, GainsObjection, GainsRefusal, GainsPart, FitsLimit, IsTooMuch, HoldsAccepted, HoldsBad, HoldsRefused, HoldsTooMuch};
+ghost use Rattle.stepcheck.specs.Verdicts.{IsListReport, IsReportOf};
 
 use crate::listing::{ListFault, Listing};
 use crate::status::Status;
-use crate::verdict::{Unsaid, verdict_of};
+use crate::verdict::{Unsaid, Verdict, verdict_of};
 use crate::words::number_of;
+use cert_checker::Checked;
+use count_core::CoreFault;
 use draw_ports::{PortFault, Sink, Source, put_all, read_all};
-use std::alloc::Global;
+use std::alloc::{AllocError, Global};
 
 const USAGE: &[u8] = b"usage: stepcheck BYTES\n";
 
-/// Reads a list of at most so many bytes as the one word says, and writes what is said of it.
+/// The most bytes that are read, where the words are this one number.
+fn limit_of(words: &[String]) -> Option<u64>
+    ensures { MatchOption result (HaveLimit (words_of words.now) → ⊥) (λ limit. AreLimit (words_of words.now) limit) }
+{
+    match words {
+        [word] => number_of(word.as_bytes()),
+        _ => None,
+    }
+}
+
+/// What is written of the bytes that were read.
+#[derive(Drop)]
+enum Report {
+    /// They list rules that make a problem, and steps that are accepted.
+    Accepted,
+    /// They list a step that is not accepted: the line that tells the first.
+    Bad(Vec<u8>),
+    /// They are no list, or the rules make no problem: the line that tells why.
+    Refused(Vec<u8>),
+}
+
+/// What is written of the bytes.
+fn report_of(alloc: Global, text: &[u8]) -> Result<Report, Unsaid>
+    ensures told { IfOk result (λ report. IsReportOf text.now report) }
+    ensures too_long { IsErrOf result Unsaid.TooLong → IsUncountableText text.now }
+{
+    match Listing::read(alloc, text) {
+        Ok(listing) => list_report(alloc, listing),
+        Err(ListFault::Line(line)) => match no_list_line(alloc, line) {
+            Ok(line) => Ok(Report::Refused(line)),
+            Err(_) => Err(Unsaid::NoMemory),
+        },
+        Err(ListFault::NoMemory) => Err(Unsaid::NoMemory),
+    }
+}
+
+/// What is written of the list.
+fn list_report(alloc: Global, listing: Listing) -> Result<Report, Unsaid>
+    ensures told { IfOk result (λ report. IsListReport listing.atoms listing.rules.items listing.steps.items report) }
+    ensures too_long { IsErrOf result Unsaid.TooLong → IsCountableList listing.rules.items listing.steps.items → ⊥ }
+{
+    let verdict = match verdict_of(alloc, listing) {
+        Ok(verdict) => verdict,
+        Err(unsaid) => return Err(unsaid),
+    };
+    match verdict {
+        Verdict::Refused(fault) => match fault_line(alloc, fault) {
+            Ok(line) => Ok(Report::Refused(line)),
+            Err(_) => Err(Unsaid::NoMemory),
+        },
+        Verdict::Checked(Checked::Accepted) => Ok(Report::Accepted),
+        Verdict::Checked(Checked::Bad { step, hint }) => match bad_line(alloc, step, hint) {
+            Ok(line) => Ok(Report::Bad(line)),
+            Err(_) => Err(Unsaid::NoMemory),
+        },
+    }
+}
+
+/// The line where that line of the text is the first that can't be taken.
+fn no_list_line(alloc: Global, line: u64) -> Result<Vec<u8>, AllocError>
+    ensures { IfOk result (λ text. text.items ≡ no_list_line line) }
+{
+    let text = format!(in alloc; "not a list {line}\n")?;
+    Ok(text.into_bytes())
+}
+
+/// The line of the first step that is not accepted.
+fn bad_line(alloc: Global, step: u32, hint: u32) -> Result<Vec<u8>, AllocError>
+    ensures { IfOk result (λ text. text.items ≡ bad_line step hint) }
+{
+    let text = format!(in alloc; "bad {step} {hint}\n")?;
+    Ok(text.into_bytes())
+}
+
+/// The line of the rules' first fault. Want of memory has none.
+fn fault_line(alloc: Global, fault: CoreFault) -> Result<Vec<u8>, AllocError>
+    ensures { IfOk result (λ text. text.items ≡ fault_line fault) }
+{
+    let text = match fault {
+        CoreFault::AtomRange { rule } => format!(in alloc; "problem refused {rule} AtomRange\n")?,
+        CoreFault::RepeatedAtom { rule } => {
+            format!(in alloc; "problem refused {rule} RepeatedAtom\n")?
+        }
+        CoreFault::BadBounds { rule } => format!(in alloc; "problem refused {rule} BadBounds\n")?,
+        CoreFault::NoMemory => return Err(AllocError),
+    };
+    Ok(text.into_bytes())
+}
+
+/// Reads a list of at most so many bytes as the one word says, and writes what is said of it; where
+/// the words are not one number it writes the usage line and reads nothing. The order of the causes
+/// is Usage, ReadFault, TooLong, Refused, Bad.
 pub(crate) fn run<S: Source, K: Sink>(
     alloc: Global,
     words: &[String],
     src: &mut S,
     out: &mut K,
 ) -> Status
-    // A fault only where that object's count rose in this call.
+    // Accepted exactly for the text of an accepted list, with the source at its end.
+    ensures accepted { result ≡ Status.Accepted → GainsApproval (S.left src.old) (K.wrote out.old) (K.wrote out.new) }
+    ensures accepted_end { result ≡ Status.Accepted → IsAtEnd (S.left src.new) }
+    ensures accepted_fits { result ≡ Status.Accepted → FitsLimit (words_of words.now) (S.left src.old) }
+    // Bad exactly for the text of a list with a first bad step.
+    ensures bad { result ≡ Status.Bad → GainsObjection (S.left src.old) (K.wrote out.old) (K.wrote out.new) }
+    ensures bad_end { result ≡ Status.Bad → IsAtEnd (S.left src.new) }
+    ensures bad_fits { result ≡ Status.Bad → FitsLimit (words_of words.now) (S.left src.old) }
+    // Refused exactly for what is no list's text, or a list's whose rules make no problem.
+    ensures refused { result ≡ Status.Refused → GainsRefusal (S.left src.old) (K.wrote out.old) (K.wrote out.new) }
+    ensures refused_end { result ≡ Status.Refused → IsAtEnd (S.left src.new) }
+    ensures refused_fits { result ≡ Status.Refused → FitsLimit (words_of words.now) (S.left src.old) }
+    // Usage exactly by the words.
+    ensures usage { result ≡ Status.Usage → HaveLimit (words_of words.now) → ⊥ }
+    ensures usage_line { result ≡ Status.Usage → Appends (K.wrote out.old) (K.wrote out.new) usage_line }
+    ensures usage_reads_nothing { (HaveLimit (words_of words.now) → ⊥) → (S.left src.new ≡ S.left src.old) × (S.faults src.new ≡ S.faults src.old) }
+    ensures no_limit { (HaveLimit (words_of words.now) → ⊥) → (result ≡ Status.Usage) ⊎ (result ≡ Status.WriteFault) }
+    // A fault only where that object's count rose in this call; after a failed `put` or `take` no other status.
     ensures read { result ≡ Status.ReadFault → Rose (S.faults src.old) (S.faults src.new) }
+    ensures source_quiet { result ≢ Status.ReadFault → S.faults src.new ≡ S.faults src.old }
+    ensures sink_quiet { result ≢ Status.WriteFault → K.faults out.new ≡ K.faults out.old }
+    ensures read_none { result ≡ Status.ReadFault → Keeps (K.wrote out.old) (K.wrote out.new) }
     ensures write { result ≡ Status.WriteFault → Rose (K.faults out.old) (K.faults out.new) }
+    ensures write_part { result ≡ Status.WriteFault → HaveLimit (words_of words.now) → GainsPart (S.left src.old) (K.wrote out.old) (K.wrote out.new) }
+    ensures write_usage { result ≡ Status.WriteFault → (HaveLimit (words_of words.now) → ⊥) → AppendsSome (K.wrote out.old) (K.wrote out.new) usage_line }
+    // Too long by the number of bytes, or by a list that a u32 does not number.
+    ensures too_long { result ≡ Status.TooLong → IsTooMuch (words_of words.now) (S.left src.old) }
+    ensures too_long_none { result ≡ Status.TooLong → Keeps (K.wrote out.old) (K.wrote out.new) }
+    ensures no_memory_none { result ≡ Status.NoMemory → Keeps (K.wrote out.old) (K.wrote out.new) }
+    // The right words and no fault: by the bytes alone, or no memory.
+    ensures complete { HoldsAccepted (words_of words.now) (S.left src.old)
+        → (Rose (S.faults src.old) (S.faults src.new) → ⊥) → (Rose (K.faults out.old) (K.faults out.new) → ⊥)
+        → (result ≡ Status.Accepted) ⊎ ((result ≡ Status.TooLong) ⊎ (result ≡ Status.NoMemory)) }
+    ensures complete_bad { HoldsBad (words_of words.now) (S.left src.old)
+        → (Rose (S.faults src.old) (S.faults src.new) → ⊥) → (Rose (K.faults out.old) (K.faults out.new) → ⊥)
+        → (result ≡ Status.Bad) ⊎ ((result ≡ Status.TooLong) ⊎ (result ≡ Status.NoMemory)) }
+    ensures complete_refused { HoldsRefused (words_of words.now) (S.left src.old)
+        → (Rose (S.faults src.old) (S.faults src.new) → ⊥) → (Rose (K.faults out.old) (K.faults out.new) → ⊥)
+        → (result ≡ Status.Refused) ⊎ ((result ≡ Status.TooLong) ⊎ (result ≡ Status.NoMemory)) }
+    ensures complete_too_long { HoldsTooMuch (words_of words.now) (S.left src.old)
+        → (Rose (S.faults src.old) (S.faults src.new) → ⊥) → (Rose (K.faults out.old) (K.faults out.new) → ⊥)
+        → (result ≡ Status.TooLong) ⊎ (result ≡ Status.NoMemory) }
 {
     let Some(limit) = limit_of(words) else {
-        return written(out, USAGE, Status::Usage);
+        return match put_all(out, USAGE) {
+            Ok(()) => Status::Usage,
+            Err(_) => Status::WriteFault,
+        };
     };
     let text = match read_all(alloc, src, limit) {
         Ok(text) => text,
@@ -32,64 +169,20 @@ pub(crate) fn run<S: Source, K: Sink>(
         Err(PortFault::TooLong { limit: _ }) => return Status::TooLong,
         Err(_) => return Status::NoMemory,
     };
-    match reply_to(alloc, text.as_slice()) {
-        Ok((line, status)) => written(out, line.as_bytes(), status),
+    match report_of(alloc, &text) {
+        Ok(Report::Accepted) => match put_all(out, b"accepted\n") {
+            Ok(()) => Status::Accepted,
+            Err(_) => Status::WriteFault,
+        },
+        Ok(Report::Bad(line)) => match put_all(out, &line) {
+            Ok(()) => Status::Bad,
+            Err(_) => Status::WriteFault,
+        },
+        Ok(Report::Refused(line)) => match put_all(out, &line) {
+            Ok(()) => Status::Refused,
+            Err(_) => Status::WriteFault,
+        },
         Err(Unsaid::TooLong) => Status::TooLong,
         Err(Unsaid::NoMemory) => Status::NoMemory,
-    }
-}
-
-/// The most bytes that are read, where the words are this one number.
-fn limit_of(words: &[String]) -> Option<u64> {
-    match words {
-        [word] => number_of(word.as_bytes()),
-        _ => None,
-    }
-}
-
-/// Writes the line of the status, and ends with it, or with WriteFault.
-fn written<K: Sink>(out: &mut K, bytes: &[u8], status: Status) -> Status
-    requires { has_line status ≡ true }
-    ensures write { result ≡ Status.WriteFault → Rose (K.faults out.old) (K.faults out.new) }
-    ensures read { result ≡ Status.ReadFault → ⊥ }
-{
-    match put_all(out, bytes) {
-        Ok(()) => status,
-        Err(_) => Status::WriteFault,
-    }
-}
-
-/// The line for a text, and the status with which the program ends once it is written.
-fn reply_to(alloc: Global, text: &[u8]) -> Result<(String, Status), Unsaid>
-    ensures { IfOk result (λ reply. has_line reply.1 ≡ true) }
-{
-    let listing = match Listing::read(alloc, text) {
-        Ok(listing) => listing,
-        Err(ListFault::Line(line)) => return not_a_list(alloc, line),
-        Err(ListFault::NoMemory) => return Err(Unsaid::NoMemory),
-    };
-    told(alloc, listing)
-}
-
-/// The line and the status of a list: those of its verdict.
-fn told(alloc: Global, listing: Listing) -> Result<(String, Status), Unsaid>
-    ensures line { IfOk result (λ reply. string_bytes reply.0 ≡ verdict_line (verdict_of listing.atoms listing.rules.items listing.steps.items)) }
-    ensures status { IfOk result (λ reply. reply.1 ≡ verdict_status (verdict_of listing.atoms listing.rules.items listing.steps.items)) }
-    ensures told { IfOk result (λ reply. has_line reply.1 ≡ true) }
-{
-    let verdict = verdict_of(alloc, listing)?;
-    match verdict.line(alloc) {
-        Ok(line) => Ok((line, verdict.status())),
-        Err(_) => Err(Unsaid::NoMemory),
-    }
-}
-
-/// The line and the status where that line of the text is the first that can't be taken.
-fn not_a_list(alloc: Global, line: u64) -> Result<(String, Status), Unsaid>
-    ensures { IfOk result (λ reply. reply.1 ≡ Status.Refused) }
-{
-    match format!(in alloc; "not a list {line}\n") {
-        Ok(line) => Ok((line, Status::Refused)),
-        Err(_) => Err(Unsaid::NoMemory),
     }
 }

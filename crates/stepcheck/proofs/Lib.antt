@@ -1,0 +1,6 @@
+pub mod Fronts
+pub mod Numbers
+pub mod WordFronts
+pub mod LineFronts
+pub mod Lists
+pub mod Runs
