@@ -4,7 +4,7 @@ use Rattle.std.specs.Prelude.{flat_map, ◌==◌, false}
 use Rattle.std.specs.List.{AllByRecursion}
 use Rattle.count_core.specs.declared.count_rule.CountRule.{CountRule}
 use Rattle.count_core.specs.declared.step.Step.{Step}
-use Rattle.stepcheck.specs.ListTexts.{FitsRule, FitsStep, atoms_line, rule_line, step_line, list_text, IsListText, IsNoListText, NoRuleLine, IsWrongBehind, IsFirstWrongLine, OneListOfText}
+use Rattle.stepcheck.specs.ListTexts.{FitsRule, FitsStep, atoms_line, rule_line, step_line, list_text, IsListText, IsNoListText, NoRuleLine, IsWrongBehind, IsFirstWrongLine, IsOnlyListOf}
 use Rattle.stepcheck.specs.Fronts.{EndsLine, AreAtomsAt, NoAtomsAt, NoRuleAt, NoStepAt, AreRulesAt, AreStepsAt}
 use Rattle.stepcheck.proofs.Fronts.{are_all, all_of}
 use Rattle.stepcheck.proofs.LineFronts.{one_atoms, one_rule, one_step}
@@ -81,9 +81,10 @@ is_read text atoms rules steps h = record {
   steps_are = subst (λ l. AreStepsAt l steps []) (append-nil (flat_map step_line steps)) (all_of step_line FitsStep EndsLine one_step (any_end step_line) steps [] h.steps_fit tt no_step_at_end);
 }
 
-pub one_list : OneListOfText
-one_list atoms others rules more steps further text h g =
-    let same = read_alone text others more further [] (is_read text others more further g) atoms rules steps h in
+-- what the bytes are the text of is the only such list
+pub one_list : (text : List ℕ) (atoms : ℕ) (rules : List CountRule) (steps : List Step) → IsListText atoms rules steps text → IsOnlyListOf text atoms rules steps
+one_list text atoms rules steps h others more further g =
+    let same = read_alone text atoms rules steps [] (is_read text atoms rules steps h) others more further g in
     (same.0, same.1, same.2)
 
 -- ---- the first line that is wrong

@@ -56,7 +56,7 @@ module _ (bytes : List ℕ) where
   -- of two that are said of a text, both are said of one list
   same_text : (P Q : ℕ → List CountRule → List Step → Type 0) → IsTextWhere P bytes → IsTextWhere Q bytes → (atoms : ℕ) × (rules : List CountRule) × (steps : List Step) × P atoms rules steps × Q atoms rules steps
   same_text P Q h g =
-      let same = one_list h.0 g.0 h.1 g.1 h.2 g.2 bytes h.3 g.3 in
+      let same = one_list bytes g.0 g.1 g.2 g.3 h.0 h.1 h.2 h.3 in
       (g.0, g.1, g.2, subst (λ (l : ℕ × List CountRule × List Step). P l.0 l.1 l.2) (λ i. (same.0 i, same.1 i, same.2 i)) h.4, g.4)
 
   pub accepted_not_bad : IsAcceptedText bytes → HasBadStep bytes → ⊥

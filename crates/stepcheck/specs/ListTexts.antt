@@ -63,6 +63,11 @@ pub record IsListText (atoms : ℕ) (rules : List CountRule) (steps : List Step)
   pub steps_fit : AllByRecursion FitsStep steps
   pub whole : bytes ≡ list_text atoms rules steps
 
+-- Each list whose text the bytes are is this one.
+abbrev pub IsOnlyListOf : List ℕ → ℕ → List CountRule → List Step → Type 0
+IsOnlyListOf bytes atoms rules steps = (others : ℕ) (more : List CountRule) (further : List Step)
+    → IsListText others more further bytes → (others ≡ atoms) × (more ≡ rules) × (further ≡ steps)
+
 -- The bytes are the text of no list.
 abbrev pub IsNoListText : List ℕ → Type 0
 IsNoListText bytes = (atoms : ℕ) (rules : List CountRule) (steps : List Step) → IsListText atoms rules steps bytes → ⊥
@@ -99,11 +104,3 @@ pub record IsWrongBehind (bytes : List ℕ) (line : ℕ) : Type 0 where
 -- The line with this number, from 1, is the first that is wrong, or missing.
 abbrev pub IsFirstWrongLine : List ℕ → ℕ → Type 0
 IsFirstWrongLine bytes line = ((line ≡ 1) × NoAtomsLine bytes) ⊎ IsWrongBehind bytes line
-
--- ---- law
-
--- One text is the text of at most one list.
-abbrev pub OneListOfText : Type 0
-OneListOfText = (atoms others : ℕ) (rules more : List CountRule) (steps further : List Step) (bytes : List ℕ)
-    → IsListText atoms rules steps bytes → IsListText others more further bytes
-    → (atoms ≡ others) × (rules ≡ more) × (steps ≡ further)

@@ -1,5 +1,5 @@
 ghost use Rattle.std.specs.Prelude.{◌≡◌, ◌+◌, ◌<◌, ◌≤◌, ℕ, length, IfOk, IsErrOf};
-ghost use Rattle.stepcheck.specs.ListTexts.{IsListText, IsNoListText, IsFirstWrongLine};
+ghost use Rattle.stepcheck.specs.ListTexts.{IsListText, IsOnlyListOf, IsNoListText, IsFirstWrongLine};
 ghost use Rattle.stepcheck.specs.Fronts.{AreRulesAt, AreStepsAt};
 
 use crate::lines::{atoms_at, rule_at, step_at};
@@ -27,6 +27,7 @@ impl Listing {
     /// each step, each ended by a line feed.
     pub(crate) fn read(alloc: Global, text: &[u8]) -> Result<Listing, ListFault>
         ensures ok { IfOk result (λ list. IsListText list.atoms list.rules.items list.steps.items text.now) }
+        ensures only { IfOk result (λ list. IsOnlyListOf text.now list.atoms list.rules.items list.steps.items) }
         ensures none { (line : ℕ) → IsErrOf result (ListFault.Line line) → IsNoListText text.now }
         ensures first { (line : ℕ) → IsErrOf result (ListFault.Line line) → IsFirstWrongLine text.now line }
     {

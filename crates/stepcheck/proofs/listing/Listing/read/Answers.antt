@@ -1,5 +1,5 @@
 use Rattle.std.proofs.Common.{◌≡◌, ◌+◌, arith}
-use Rattle.stepcheck.proofs.Lists.{is_left, no_list_left, later_wrong}
+use Rattle.stepcheck.proofs.Lists.{is_left, read_alone, no_list_left, later_wrong}
 use Rattle.stepcheck.proofs.listing.Listing.read.Goals as goal
 
 pub returns-then-not-is_empty-clause-none : goal.returns-then-not-is_empty-clause-none
@@ -14,3 +14,10 @@ returns-then-not-is_empty-clause-first c = λ line e.
     later_wrong c.args.text.now c.in-Some.atoms c.in-Ok.rules.items c.in-Ok-steps_at.steps.items c.in-Ok-steps_at.left.now
     (record { behind = c.in-Some.left.now; after = c.in-Ok.left.now; atoms_are = c.in-Some.ensures.text; rules_are = c.in-Ok.ensures.text; steps_are = c.in-Ok-steps_at.ensures.text })
     line (omega (arith, c.len.ensures, c.len-then-not-is_empty.ensures)) (is_left c.in-Ok-steps_at.left.now c.if-not-is_empty.ensures)
+
+pub returns-clause-only : goal.returns-clause-only
+returns-clause-only c = λ others more further h.
+    let same = read_alone c.args.text.now c.in-Some.atoms c.in-Ok.rules.items c.in-Ok-steps_at.steps.items c.in-Ok-steps_at.left.now
+        (record { behind = c.in-Some.left.now; after = c.in-Ok.left.now; atoms_are = c.in-Some.ensures.text; rules_are = c.in-Ok.ensures.text; steps_are = c.in-Ok-steps_at.ensures.text })
+        others more further h in
+    (same.0, same.1, same.2)
