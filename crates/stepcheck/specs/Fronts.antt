@@ -46,14 +46,14 @@ pub record AllInFront {A : Type 0} (text_of : A → List ℕ) (Fits : A → Type
 
 -- ---- the kinds
 
--- the byte, and what follows it
+-- the byte, and what follows it; and that it does not stand in front
 abbrev pub IsByteAt : ℕ → List ℕ → List ℕ → Type 0
 IsByteAt byte text rest = text ≡ byte ∷ rest
 
 abbrev pub NoByteAt : ℕ → List ℕ → Type 0
 NoByteAt byte text = (rest : List ℕ) → IsByteAt byte text rest → ⊥
 
--- the slash behind one space
+-- the slash behind one space, and what follows it; and that it does not stand in front
 abbrev pub IsSlashAt : List ℕ → List ℕ → Type 0
 IsSlashAt text rest = text ≡ 32 ∷ 47 ∷ rest
 
@@ -76,14 +76,14 @@ AreDigitsOf bound digits number = (digits ≡ decimal number) × (number < bound
 abbrev pub AreNoDigits : ℕ → List ℕ → Type 0
 AreNoDigits bound digits = (number : ℕ) → AreDigitsOf bound digits number → ⊥
 
--- a number
+-- a number, and what follows its last digit; and that none stands in front
 abbrev pub IsNumberAt : List ℕ → ℕ → List ℕ → Type 0
 IsNumberAt = InFront decimal FitsNumber EndsNumber
 
 abbrev pub NoNumberAt : List ℕ → Type 0
 NoNumberAt = NoneInFront decimal FitsNumber EndsNumber
 
--- a number behind one space
+-- a number behind one space, and what follows it; and that none stands in front
 abbrev pub spaced_number : ℕ → List ℕ
 spaced_number number = 32 ∷ decimal number
 
@@ -101,30 +101,32 @@ mark one other b = if b then one else other
 abbrev pub marked_number : ℕ → ℕ → Bool × ℕ → List ℕ
 marked_number one other p = 32 ∷ mark one other p.0 ∷ decimal p.1
 
+-- the number is one that a u32 holds
 abbrev pub FitsMarked : Bool × ℕ → Type 0
 FitsMarked p = FitsNumber p.1
 
--- one of two bytes behind one space
+-- one of two bytes behind one space, and what follows it; and that neither stands there
 abbrev pub IsMarkAt : ℕ → ℕ → List ℕ → Bool → List ℕ → Type 0
 IsMarkAt one other text b rest = text ≡ 32 ∷ mark one other b ∷ rest
 
 abbrev pub NoMarkAt : ℕ → ℕ → List ℕ → Type 0
 NoMarkAt one other text = (b : Bool) (rest : List ℕ) → IsMarkAt one other text b rest → ⊥
 
+-- such a number, and what follows it; and that none stands in front
 abbrev pub IsMarkedNumberAt : ℕ → ℕ → List ℕ → Bool × ℕ → List ℕ → Type 0
 IsMarkedNumberAt one other = InFront (marked_number one other) FitsMarked EndsNumber
 
 abbrev pub NoMarkedNumberAt : ℕ → ℕ → List ℕ → Type 0
 NoMarkedNumberAt one other = NoneInFront (marked_number one other) FitsMarked EndsNumber
 
--- a literal
+-- a literal, and what follows it; and that none stands in front
 abbrev pub IsLitAt : List ℕ → Lit → List ℕ → Type 0
 IsLitAt = InFront lit_text FitsLit EndsNumber
 
 abbrev pub NoLitAt : List ℕ → Type 0
 NoLitAt = NoneInFront lit_text FitsLit EndsNumber
 
--- a hint
+-- a hint, and what follows it; and that none stands in front
 abbrev pub IsHintAt : List ℕ → Hint → List ℕ → Type 0
 IsHintAt = InFront hint_text FitsHint EndsNumber
 
@@ -139,7 +141,7 @@ AreLitsAt = AllInFront lit_text FitsLit EndsNumber
 abbrev pub AreHintsAt : List ℕ → List Hint → List ℕ → Type 0
 AreHintsAt = AllInFront hint_text FitsHint EndsNumber
 
--- the line of the number of atoms
+-- the line of the number of atoms, and what follows it; and that none stands in front
 abbrev pub AreAtomsAt : List ℕ → ℕ → List ℕ → Type 0
 AreAtomsAt = InFront atoms_line FitsNumber EndsLine
 
@@ -150,23 +152,25 @@ NoAtomsAt = NoneInFront atoms_line FitsNumber EndsLine
 abbrev pub bounds_text : ℕ × ℕ → List ℕ
 bounds_text p = codes "r " ++ (decimal p.0 ++ (codes " " ++ decimal p.1))
 
+-- both are numbers that a u32 holds
 abbrev pub FitBounds : ℕ × ℕ → Type 0
 FitBounds p = FitsNumber p.0 × FitsNumber p.1
 
+-- lo and hi, and what follows them; and that none stand in front
 abbrev pub AreBoundsAt : List ℕ → ℕ × ℕ → List ℕ → Type 0
 AreBoundsAt = InFront bounds_text FitBounds EndsNumber
 
 abbrev pub NoBoundsAt : List ℕ → Type 0
 NoBoundsAt = NoneInFront bounds_text FitBounds EndsNumber
 
--- the line of a rule
+-- the line of a rule, and what follows it; and that none stands in front
 abbrev pub IsRuleAt : List ℕ → CountRule → List ℕ → Type 0
 IsRuleAt = InFront rule_line FitsRule EndsLine
 
 abbrev pub NoRuleAt : List ℕ → Type 0
 NoRuleAt = NoneInFront rule_line FitsRule EndsLine
 
--- the line of a step
+-- the line of a step, and what follows it; and that none stands in front
 abbrev pub IsStepAt : List ℕ → Step → List ℕ → Type 0
 IsStepAt = InFront step_line FitsStep EndsLine
 

@@ -40,18 +40,22 @@ list_text atoms rules steps = atoms_line atoms ++ (flat_map rule_line rules ++ f
 abbrev pub FitsNumber : ℕ → Type 0
 FitsNumber number = number < 2 ^ 32
 
+-- the number of its atom is one
 abbrev pub FitsLit : Lit → Type 0
 FitsLit lit = FitsNumber lit.atom.0
 
+-- the number of its rule or step is one
 abbrev pub FitsHint : Hint → Type 0
 FitsHint (Rule number) = FitsNumber number
 FitsHint (Earlier number) = FitsNumber number
 
+-- its bounds and literals are
 pub record FitsRule (rule : CountRule) : Type 0 where
   pub lo : FitsNumber rule.lo
   pub hi : FitsNumber rule.hi
   pub lits : AllByRecursion FitsLit rule.lits
 
+-- its literals and hints are
 pub record FitsStep (step : Step) : Type 0 where
   pub clause : AllByRecursion FitsLit step.clause
   pub hints : AllByRecursion FitsHint step.hints

@@ -14,6 +14,7 @@ use Rattle.cert_checker.specs.Checks.{IsFirstBad}
 use Rattle.cert_checker.specs.Countable.{AreCountable}
 use Rattle.stepcheck.specs.ListTexts.{IsListText, IsNoListText, IsFirstWrongLine}
 
+-- the words' bytes
 abbrev pub words_of : List (String Global) → List (List ℕ)
 words_of words = map string_bytes words
 
@@ -21,9 +22,11 @@ words_of words = map string_bytes words
 abbrev pub AreLimit : List (List ℕ) → ℕ → Type 0
 AreLimit words limit = (words ≡ decimal limit ∷ []) × (limit < 2 ^ 64)
 
+-- the words have the one form
 abbrev pub HaveLimit : List (List ℕ) → Type 0
 HaveLimit words = (limit : ℕ) × AreLimit words limit
 
+-- the line that is written where they have not
 abbrev pub usage_line : List ℕ
 usage_line = codes "usage: stepcheck BYTES\n"
 
@@ -147,12 +150,15 @@ IsTooMuch words left = (limit : ℕ) × AreLimit words limit × IfSome left (λ 
 abbrev pub Holds : (List ℕ → Type 0) → List (List ℕ) → Option (List ℕ) → Type 0
 Holds IsSo words left = (limit : ℕ) × AreLimit words limit × IsSomeAnd left (λ bytes. (length bytes ≤ limit) × IsSo bytes)
 
+-- the text of an accepted list
 abbrev pub HoldsAccepted : List (List ℕ) → Option (List ℕ) → Type 0
 HoldsAccepted words left = Holds IsAcceptedText words left
 
+-- the text of a list with a first bad step
 abbrev pub HoldsBad : List (List ℕ) → Option (List ℕ) → Type 0
 HoldsBad words left = Holds HasBadStep words left
 
+-- no list's text, or a list's whose rules have a fault
 abbrev pub HoldsRefused : List (List ℕ) → Option (List ℕ) → Type 0
 HoldsRefused words left = Holds IsRefused words left
 

@@ -18,6 +18,6 @@ returns-then-not-is_empty-clause-first c = λ line e.
 pub returns-clause-only : goal.returns-clause-only
 returns-clause-only c = λ others more further h.
     let same = read_alone c.args.text.now c.in-Some.atoms c.in-Ok.rules.items c.in-Ok-steps_at.steps.items c.in-Ok-steps_at.left.now
-        (record { behind = c.in-Some.left.now; after = c.in-Ok.left.now; atoms_are = c.in-Some.ensures.text; rules_are = c.in-Ok.ensures.text; steps_are = c.in-Ok-steps_at.ensures.text })
-        others more further h in
+    (record { behind = c.in-Some.left.now; after = c.in-Ok.left.now; atoms_are = c.in-Some.ensures.text; rules_are = c.in-Ok.ensures.text; steps_are = c.in-Ok-steps_at.ensures.text })
+    others more further h in
     (same.0, same.1, same.2)
