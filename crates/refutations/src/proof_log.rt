@@ -79,6 +79,7 @@ impl ProofLog {
         ensures refused { (n : ℕ) → IsErrOf result (LogFault.NotAccepted n) → hint_that_fails self.old.problem self.old.steps (spec.step_of clause.now hints.now) ≡ Some n }
         ensures told { (n : ℕ) → hint_that_fails self.old.problem self.old.steps (spec.step_of clause.now hints.now) ≡ Some n → IfErr result (λ e. (e ≡ LogFault.NotAccepted n) ⊎ (e ≡ LogFault.NoMemory)) }
         ensures taken { IsAccepted self.old.problem self.old.steps (spec.step_of clause.now hints.now) → IfErr result (λ e. e ≡ LogFault.NoMemory) }
+        ensures room { OnOk result (length self.new.steps < 2 ^ 32) }
         ensures kept { OnErr result (self.new ≡ self.old) }
     {
         let Ok(fault) = tested(
@@ -135,6 +136,7 @@ impl ProofLog {
         ensures shift { IfOk result (λ n. n ≡ length self.old.steps) }
         ensures steps { OnOk result (self.new.steps ≡ self.old.steps ++ map (shifts.shifted (length self.old.steps)) other.now.steps) }
         ensures problem { self.new.problem ≡ self.old.problem }
+        ensures room { OnOk result (length self.new.steps < 2 ^ 32) }
         ensures kept { OnErr result (self.new ≡ self.old) }
     {
         let shift = self.steps.len();

@@ -1,6 +1,6 @@
 ghost use Rattle.std.specs.Prelude.{◌≡◌, ◌≤◌, ◌==◌, length, replicate, option_map, IfSome, true, false, not, None};
 ghost use Rattle.count_core.specs.Problems.{repeats, are_within};
-ghost use Rattle.count_core.specs.Partials.{settle_all};
+ghost use Rattle.count_core.specs.Partials.{is_unset, settle_all};
 ghost use Rattle.count_core.specs.Steps as spec;
 ghost use Rattle.refutations.specs.Derivations.{step_of};
 ghost use Rattle.refutations.specs.Named.{rule_of};
@@ -66,8 +66,6 @@ fn deny(board: &mut Board, clause: &[Lit]) -> bool
     }
     true
 }
-
-ghost use Rattle.count_core.specs.Partials.{is_unset};
 
 /// Whether the literal's atom has a value.
 fn is_set(values: &[Option<bool>], lit: Lit) -> bool
