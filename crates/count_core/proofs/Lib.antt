@@ -7,3 +7,4 @@ pub mod Soundness
 pub mod Renumbering
 pub mod Denials
 pub mod Walks
+pub mod FailingHints

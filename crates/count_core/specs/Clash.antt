@@ -10,9 +10,11 @@ use Rattle.count_core.specs.declared.count_rule.CountRule.{CountRule}
 use Rattle.count_core.specs.Problems.{Problem}
 use Rattle.count_core.specs.Steps.{failing_hint}
 
+-- the atom, as a literal
 abbrev pub yes_of : ℕ → Lit
 yes_of a = record { atom = record { 0 = a }; positive = true }
 
+-- the atom's negation
 abbrev pub no_of : ℕ → Lit
 no_of a = record { atom = record { 0 = a }; positive = false }
 
@@ -34,6 +36,7 @@ clash = record {
       at_most_one 0 2 4 6 ∷ at_most_one 1 3 5 7 ∷ [];
 }
 
+-- a step, by its clause and hints
 abbrev pub step_of : List Lit → List Hint → Step
 step_of clause hints = record { clause = clause; hints = hints }
 
@@ -53,6 +56,7 @@ nothing = step_of [] (Earlier 0 ∷ Earlier 1 ∷ Rule 4 ∷ [])
 abbrev pub fails_at : List Lit → List Hint → Option ℕ
 fails_at clause hints = failing_hint clash [] (step_of clause hints)
 
+-- What the definitions say of steps over it.
 pub record ClashTable : Type 0 where
   -- the three steps are accepted one after the other
   pub first : failing_hint clash [] not_0 ≡ None

@@ -1,7 +1,6 @@
 -- What acceptance is, and why a refutation is to be believed.
-use Rattle.std.specs.Prelude.{◌≡◌, ◌↔◌, List, true}
+use Rattle.std.specs.Prelude.{◌≡◌, ◌↔◌, Bool, true, List}
 use Rattle.std.specs.List.{AllByRecursion}
-use Rattle.std.specs.Prelude.{Bool}
 use Rattle.count_core.specs.declared.lit.Lit.{Lit}
 use Rattle.count_core.specs.declared.step.Step.{Step}
 use Rattle.count_core.specs.Problems.{Problem}

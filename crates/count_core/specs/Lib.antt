@@ -3,5 +3,6 @@ pub mod FirstFaults
 pub mod Assignments
 pub mod Partials
 pub mod Steps
+pub mod FailingHints
 pub mod Laws
 pub mod Clash

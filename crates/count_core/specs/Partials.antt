@@ -12,27 +12,33 @@ Partial = List (Option Bool)
 abbrev pub known : Partial → ℕ → Option Bool
 known p a = option_and_then (λ o. o) (slice_get p a)
 
+-- the truth value is set, and to this one
 abbrev pub has_sign : Bool → Option Bool → Bool
 has_sign b None = false
 has_sign true (Some c) = c
 has_sign false (Some c) = not c
 
+-- the literal is set true
 abbrev pub is_true : Partial → Lit → Bool
 is_true p l = has_sign l.positive (known p l.atom.0)
 
+-- the literal is set false
 abbrev pub is_false : Partial → Lit → Bool
 is_false p l = has_sign (not l.positive) (known p l.atom.0)
 
+-- the literal is set neither true nor false
 abbrev pub is_unset : Partial → Lit → Bool
 is_unset p l = not (is_true p l) && not (is_false p l)
 
--- how many of the literals are true, false, unset
+-- how many of the literals are true
 abbrev pub trues : Partial → List Lit → ℕ
 trues p ls = count_by (is_true p) ls
 
+-- how many of the literals are false
 abbrev pub falses : Partial → List Lit → ℕ
 falses p ls = count_by (is_false p) ls
 
+-- how many of the literals are unset
 abbrev pub unsets : Partial → List Lit → ℕ
 unsets p ls = count_by (is_unset p) ls
 
@@ -40,7 +46,8 @@ unsets p ls = count_by (is_unset p) ls
 unfoldable pub conflicts : Partial → List Lit → ℕ → ℕ → Bool
 conflicts p ls lo hi = nat_lt hi (trues p ls) || nat_lt (length ls - falses p ls) lo
 
--- The rule forces: it has an unset literal and stands at one of its bounds.
+-- The rule forces: it has an unset literal and stands at one of its bounds. This is asked where the
+-- rule does not conflict.
 unfoldable pub forces : Partial → List Lit → ℕ → ℕ → Bool
 forces p ls lo hi = nat_lt 0 (unsets p ls) && ((trues p ls == hi) || (length ls - falses p ls == lo))
 

@@ -42,6 +42,7 @@ fault_of atoms n r =
     then (if repeats r.lits then Some (RepeatedAtom n) else (if nat_lt r.hi r.lo then Some (BadBounds n) else None))
     else Some (AtomRange n)
 
+-- the first of two faults that is there
 abbrev pub or_else : Option CoreFault → Option CoreFault → Option CoreFault
 or_else None rest = rest
 or_else (Some fault) rest = Some fault

@@ -19,6 +19,7 @@ abbrev pub rule_at : Problem → List Step → Hint → Option CountRule
 rule_at problem earlier (Rule n) = slice_get problem.rules n
 rule_at problem earlier (Earlier n) = option_map (λ (s : Step). clause_rule s.clause) (slice_get earlier n)
 
+-- no hint comes after
 abbrev pub is_last : List Hint → Bool
 is_last [] = true
 is_last (h ∷ hs) = false

@@ -1,7 +1,7 @@
 use crate::{
     Atom, CoreFault, CountRule, Hint, Hints, Lit, Lits, NoMemory, Problem, Question, SharedProblem,
     Step, Steps, Values, are_distinct, law_accepted_by_conflict, law_accepted_clauses_follow,
-    law_clash_table, law_first_fault, law_refuted_questions_fail, satisfied,
+    law_clash_table, law_failing_hint, law_first_fault, law_refuted_questions_fail, satisfied,
 };
 use std::alloc::Global;
 use std::test::Fail;
@@ -22,6 +22,43 @@ const CLASH: [Row<'static>; 10] = [
     (&[5, 7], 1, 1),
     (&[0, 2, 4, 6], 0, 1),
     (&[1, 3, 5, 7], 0, 1),
+];
+
+/// So many atoms, rules over them, and the fault that building a problem of them tells, or none.
+const FAULTS: [(u32, &[Row<'static>], Option<CoreFault>); 9] = [
+    (0, &[], None),
+    (8, &CLASH, None),
+    (7, &CLASH, Some(CoreFault::AtomRange { rule: 3 })),
+    (
+        1,
+        &[(&[0], 0, 9), (&[1], 0, 1)],
+        Some(CoreFault::AtomRange { rule: 1 }),
+    ),
+    (
+        3,
+        &[(&[0, 1], 0, 1), (&[1, 2, 1], 0, 1)],
+        Some(CoreFault::RepeatedAtom { rule: 1 }),
+    ),
+    (
+        3,
+        &[(&[0, 1], 2, 2), (&[2], 2, 1)],
+        Some(CoreFault::BadBounds { rule: 1 }),
+    ),
+    (
+        3,
+        &[(&[1, 1, 3], 2, 1)],
+        Some(CoreFault::AtomRange { rule: 0 }),
+    ),
+    (
+        3,
+        &[(&[1, 1], 2, 1)],
+        Some(CoreFault::RepeatedAtom { rule: 0 }),
+    ),
+    (
+        3,
+        &[(&[1], 2, 1), (&[3], 0, 1)],
+        Some(CoreFault::BadBounds { rule: 0 }),
+    ),
 ];
 
 fn lit(atom: u32, positive: bool) -> Lit {
@@ -61,42 +98,7 @@ fn built(alloc: Global, atoms: u32, rows: &[Row<'_>]) -> Result<Problem, CoreFau
 
 #[test]
 fn first_faults(rt: HostRuntime) {
-    let cases: [(u32, &[Row<'_>], Option<CoreFault>); 9] = [
-        (0, &[], None),
-        (8, &CLASH, None),
-        (7, &CLASH, Some(CoreFault::AtomRange { rule: 3 })),
-        (
-            1,
-            &[(&[0], 0, 9), (&[1], 0, 1)],
-            Some(CoreFault::AtomRange { rule: 1 }),
-        ),
-        (
-            3,
-            &[(&[0, 1], 0, 1), (&[1, 2, 1], 0, 1)],
-            Some(CoreFault::RepeatedAtom { rule: 1 }),
-        ),
-        (
-            3,
-            &[(&[0, 1], 2, 2), (&[2], 2, 1)],
-            Some(CoreFault::BadBounds { rule: 1 }),
-        ),
-        (
-            3,
-            &[(&[1, 1, 3], 2, 1)],
-            Some(CoreFault::AtomRange { rule: 0 }),
-        ),
-        (
-            3,
-            &[(&[1, 1], 2, 1)],
-            Some(CoreFault::RepeatedAtom { rule: 0 }),
-        ),
-        (
-            3,
-            &[(&[1], 2, 1), (&[3], 0, 1)],
-            Some(CoreFault::BadBounds { rule: 0 }),
-        ),
-    ];
-    for (atoms, rows, fault) in cases {
+    for (atoms, rows, fault) in FAULTS {
         assert_eq!(rt;
             built(rt.alloc(), atoms, rows).err(),
             fault,
@@ -166,34 +168,64 @@ fn questions_and_literals(rt: HostRuntime) -> Result<(), Fail> {
     Ok(())
 }
 
-/// Copies of a step, by way of each list, and the numbers of hints and values.
-fn copied(alloc: Global, clause: &[Lit], hints: &[Hint]) -> Result<(Step, usize), NoMemory> {
+/// Values by way of each of their functions: made of a slice, moved out and in, and copied.
+fn copied_values(alloc: Global, entries: &[bool]) -> Result<Values, NoMemory> {
+    let entries = Values::from_slice(alloc, entries)?.into_vec();
+    Values::new(entries).clone_in(alloc)
+}
+
+/// Literals by way of each of their functions.
+fn copied_lits(alloc: Global, entries: &[Lit]) -> Result<Lits, NoMemory> {
+    let entries = Lits::from_slice(alloc, entries)?.into_vec();
+    Lits::new(entries).clone_in(alloc)
+}
+
+#[test]
+fn copies_of_values(rt: HostRuntime) -> Result<(), Fail> {
+    let values = copied_values(rt.alloc(), &[true, false, false])?;
+    assert_eq!(rt; values.as_slice(), [true, false, false].as_slice());
+    let entries = values.into_vec();
+    assert_eq!(rt; entries.as_slice(), [true, false, false].as_slice());
+    Ok(())
+}
+
+#[test]
+fn copies_of_literals(rt: HostRuntime) -> Result<(), Fail> {
+    let lits = copied_lits(rt.alloc(), &[lit(4, true), lit(2, false)])?;
+    let entries = lits.into_vec();
+    assert_eq!(rt;
+        entries.as_slice(),
+        [lit(4, true), lit(2, false)].as_slice()
+    );
+    Ok(())
+}
+
+/// A copy of a step, by way of the lists of its clause and of its hints.
+fn copied(alloc: Global, clause: &[Lit], hints: &[Hint]) -> Result<Step, NoMemory> {
     let hints = Hints::from_slice(alloc, hints)?.into_vec();
-    let number = hints.len() + Values::from_slice(alloc, &[true, false])?.as_slice().len();
     let clause = Lits::from_slice(alloc, clause)?;
     let step = Step {
         clause,
         hints: Hints::new(hints),
     };
-    Ok((step.clone_in(alloc)?, number))
+    step.clone_in(alloc)
 }
 
-fn listed(alloc: Global, clause: &[Lit], hints: &[Hint]) -> Result<(Steps, usize), NoMemory> {
+fn listed(alloc: Global, clause: &[Lit], hints: &[Hint]) -> Result<Steps, NoMemory> {
     let mut steps = Vec::new(alloc);
-    let (step, number) = copied(alloc, clause, hints)?;
+    let step = copied(alloc, clause, hints)?;
     steps.push(step)?;
-    Ok((Steps::new(steps).clone_in(alloc)?, number))
+    Steps::new(steps).clone_in(alloc)
 }
 
 #[test]
 fn copies_of_steps(rt: HostRuntime) {
     let clause = [lit(0, false)];
     let hints = [Hint::Rule(8), Hint::Rule(5)];
-    let Ok((steps, number)) = listed(rt.alloc(), &clause, &hints) else {
+    let Ok(steps) = listed(rt.alloc(), &clause, &hints) else {
         assert!(rt; false, "memory");
         return;
     };
-    assert_eq!(rt; number, 4);
     assert_eq!(rt; steps.as_slice().len(), 1);
     for step in shared(steps).into_vec().iter() {
         assert_eq!(rt; step.clause.as_slice(), clause.as_slice());
@@ -223,5 +255,6 @@ fn shared_problems_and_laws(rt: HostRuntime) {
     law_accepted_clauses_follow();
     law_refuted_questions_fail();
     law_clash_table();
+    law_failing_hint();
     law_first_fault();
 }
