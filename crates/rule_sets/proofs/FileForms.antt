@@ -1,9 +1,12 @@
 -- A well-formed draw file has its form: no fault of a head, and none of its pairs, holds of it.
 use Rattle.std.proofs.Common.{◌≡◌, ◌≢◌, ℕ, suc, eqb-true, ◌+◌, ◌<◌, ◌≤◌, ◌⊎◌, Bool, true, false, List, [], ◌∷◌, length, Option, Some, None, Result, Ok, Err, refl, sym, ◌∙◌, ap, subst, arith}
-use Rattle.std.specs.Prelude.{◌==◌, ◌&&◌, nat_le, bytes_eq, if◌then◌else◌, option_and_then, codes}
+use Rattle.std.specs.Prelude.{◌==◌, ◌&&◌, not, nat_le, bytes_eq, if◌then◌else◌, option_map, option_and_then, codes}
 use Rattle.std.specs.List.{All}
 use Rattle.std.proofs.lemmas.List.Elements.{All-nil, All-cons}
 use Rattle.std.proofs.lemmas.Bool.Decides.{nat_tests}
+use Rattle.std.proofs.lemmas.Slice.Eq.{bytes_eq-Decides}
+use Rattle.serde_json.specs.Data.{Data}
+use Rattle.serde_json.specs.Find.{as_str}
 use Rattle.team_files.specs.declared.fault.FileFault.{FileFault}
 use Rattle.team_files.specs.declared.fault.Field.{Field}
 use Rattle.team_files.specs.declared.fields.TeamFields.{TeamFields}
@@ -11,78 +14,139 @@ use Rattle.team_files.specs.declared.fields.HeadFields.{HeadFields}
 use Rattle.team_files.specs.declared.team.Team.{Team}
 use Rattle.team_files.specs.declared.team_id.TeamId.{TeamId}
 use Rattle.team_files.specs.declared.head_pair.HeadPair.{HeadPair}
-use Rattle.team_files.specs.Characters.{is_code}
+use Rattle.team_files.specs.Characters.{is_capital, is_code, is_tag}
 use Rattle.team_files.specs.Answers.{after}
-use Rattle.team_files.specs.Members.{where_true, text_in, number_in, tags_in, letter_of}
+use Rattle.team_files.specs.Members.{where_true, text_in, list_in, number_in, tag_of, tags_of, tags_in, letter_of}
 use Rattle.team_files.specs.Teams.{find_from, find}
 use Rattle.team_files.specs.Heads.{or_wrong, name_in, pot_in, team_fields, all_team_fields, objects_in, pairs_in, head_fields, too_many_fault, team_of, teams_from, pot_size, pot_size_fault, name_of, Head, head_of}
 use Rattle.team_files.proofs.HeadLaws.{gave, parts, few_pairs}
 use Rattle.team_files.proofs.CodeLaws.{distinct}
 use Rattle.rule_sets.specs.declared.pair.Pair.{Pair}
 use Rattle.rule_sets.specs.Files.{file_with, team_named, pair_at, pair_of, pairs_from}
-use Rattle.rule_sets.specs.Forms.{HasCode, IsInPot, NamesTwoTeams, HasForm, FilesHaveForm}
+use Rattle.rule_sets.specs.Forms.{HasCode, IsInPot, AreTags, HasTags, HasLetter, NamesTwoTeams, HasForm, FilesHaveForm}
 
--- ---- the pots
+-- ---- the pots, tags and letters
 
 one_or_two : (n : ℕ) → (nat_le 1 n && nat_le n 2) ≡ true → (n ≡ 1) ⊎ (n ≡ 2)
 one_or_two n e = grind (arith, nat_tests)
 
-pot_range : (m : Option ℕ) (n : ℕ) → option_and_then (λ k. where_true (nat_le 1 k && nat_le k 2) k) m ≡ Some n → (n ≡ 1) ⊎ (n ≡ 2)
-pot_range None n e = cc
-pot_range (Some m) n e = go (nat_le 1 m && nat_le m 2) refl e
+-- a value that was kept passed the test
+passed_test : {A : Type 0} (test : A → Bool) (value : Option A) (a : A) → option_and_then (λ x. where_true (test x) x) value ≡ Some a → test a ≡ true
+passed_test test None a e = cc
+passed_test test (Some x) a e = go (test x) refl e
   where
-    go : (b : Bool) → (nat_le 1 m && nat_le m 2) ≡ b → where_true b m ≡ Some n → (n ≡ 1) ⊎ (n ≡ 2)
-    go true is f = let s : m ≡ n = cc in subst (λ (k : ℕ). (k ≡ 1) ⊎ (k ≡ 2)) s (one_or_two m is)
+    go : (b : Bool) → test x ≡ b → where_true b x ≡ Some a → test a ≡ true
+    go true is f = let same : x ≡ a = cc in subst (λ y. test y ≡ true) same is
     go false is f = cc
 
--- the fields of a team have the pot that its object has
-pot_kept : (code : Result (List ℕ) FileFault) (name : Result (Option (List ℕ)) FileFault) (pot : Option ℕ)
-    (tags : Result (List (List ℕ)) FileFault) (letter : Result ℕ FileFault) (f : TeamFields)
-    → after code (λ c. after name (λ n. after (or_wrong pot Field.Pot) (λ p. after tags (λ t. after letter (λ l.
-    Ok (record { code = c; name = n; pot = p; tags = t; group_letter = l })))))) ≡ Ok f
-    → pot ≡ Some f.pot
-pot_kept (Err x) name pot tags letter f e = cc
-pot_kept (Ok c) (Err x) pot tags letter f e = cc
-pot_kept (Ok c) (Ok n) None tags letter f e = cc
-pot_kept (Ok c) (Ok n) (Some p) (Err x) letter f e = cc
-pot_kept (Ok c) (Ok n) (Some p) (Ok t) (Err x) f e = cc
-pot_kept (Ok c) (Ok n) (Some p) (Ok t) (Ok l) f e = cc
+tag_is : (d : Data) (tag : List ℕ) → tag_of d ≡ Some tag → is_tag tag ≡ true
+tag_is d tag e = passed_test is_tag (as_str d) tag e
 
-fields_pot : (d : _) (f : TeamFields) → team_fields d ≡ Ok f → (f.pot ≡ 1) ⊎ (f.pot ≡ 2)
-fields_pot d f e =
+different : (a b : List ℕ) → bytes_eq a b ≡ false → a ≢ b
+different a b e = λ same. let yes = (bytes_eq-Decides a b).1 same in cc
+
+two_tags : (d e : Data) (m n : Option (List ℕ)) (tags : List (List ℕ)) → tag_of d ≡ m → tag_of e ≡ n
+    → option_and_then (λ s. option_and_then (λ t. where_true (not (bytes_eq s t)) (s ∷ t ∷ [])) n) m ≡ Some tags → AreTags tags
+two_tags d e None n tags a b h = cc
+two_tags d e (Some s) None tags a b h = cc
+two_tags d e (Some s) (Some t) tags a b h = go (bytes_eq s t) refl h
+  where
+    go : (x : Bool) → bytes_eq s t ≡ x → where_true (not x) (s ∷ t ∷ []) ≡ Some tags → AreTags tags
+    go true is k = cc
+    go false is k = let same : s ∷ t ∷ [] ≡ tags = cc in subst AreTags same (tag_is d s a, tag_is e t b, different s t is)
+
+one_tag : (d : Data) (m : Option (List ℕ)) (tags : List (List ℕ)) → tag_of d ≡ m → option_map (λ s. s ∷ []) m ≡ Some tags → AreTags tags
+one_tag d None tags a h = cc
+one_tag d (Some s) tags a h = let same : s ∷ [] ≡ tags = cc in subst AreTags same (tag_is d s a)
+
+are_tags : (ds : List Data) (tags : List (List ℕ)) → tags_of ds ≡ Some tags → AreTags tags
+are_tags [] tags e = cc
+are_tags (a ∷ []) tags e = one_tag a (tag_of a) tags refl e
+are_tags (a ∷ b ∷ []) tags e = two_tags a b (tag_of a) (tag_of b) tags refl refl e
+are_tags (a ∷ b ∷ c ∷ ds) tags e = cc
+
+listed_tags : (ds : Option (List Data)) (tags : List (List ℕ)) → option_and_then tags_of ds ≡ Some tags → AreTags tags
+listed_tags None tags e = cc
+listed_tags (Some ds) tags e = are_tags ds tags e
+
+letter_is : (text : Option (List ℕ)) (letter : ℕ) → option_and_then letter_of text ≡ Some letter → is_capital letter ≡ true
+letter_is None letter e = cc
+letter_is (Some []) letter e = cc
+letter_is (Some (b ∷ [])) letter e = passed_test is_capital (Some b) letter e
+letter_is (Some (b ∷ c ∷ bs)) letter e = cc
+
+-- the fields of a team have what its object has
+fields_are : (code : Result (List ℕ) FileFault) (name : Result (Option (List ℕ)) FileFault) (pot : Option ℕ)
+    (tags : Option (List (List ℕ))) (letter : Option ℕ) (f : TeamFields)
+    → after code (λ c. after name (λ n. after (or_wrong pot Field.Pot) (λ p. after (or_wrong tags Field.Tags) (λ t. after (or_wrong letter Field.Group) (λ l.
+    Ok (record { code = c; name = n; pot = p; tags = t; group_letter = l })))))) ≡ Ok f
+    → (pot ≡ Some f.pot) × (tags ≡ Some f.tags) × (letter ≡ Some f.group_letter)
+fields_are (Err x) name pot tags letter f e = cc
+fields_are (Ok c) (Err x) pot tags letter f e = cc
+fields_are (Ok c) (Ok n) None tags letter f e = cc
+fields_are (Ok c) (Ok n) (Some p) None letter f e = cc
+fields_are (Ok c) (Ok n) (Some p) (Some t) None f e = cc
+fields_are (Ok c) (Ok n) (Some p) (Some t) (Some l) f e = (cc, cc, cc)
+
+-- What the fields of a team are.
+record AreRead (f : TeamFields) : Type 0 where
+  pot : (f.pot ≡ 1) ⊎ (f.pot ≡ 2)
+  tags : AreTags f.tags
+  letter : is_capital f.group_letter ≡ true
+
+are_read : (d : Data) (f : TeamFields) → team_fields d ≡ Ok f → AreRead f
+are_read d f e =
     let code = or_wrong (text_in (codes "code") d) Field.Code in
     let name = or_wrong (name_in d) Field.Name in
-    let tags = or_wrong (tags_in (codes "tags") d) Field.Tags in
-    let letter = or_wrong (option_and_then letter_of (text_in (codes "group") d)) Field.Group in
-    pot_range (number_in (codes "pot") d) f.pot (pot_kept code name (pot_in d) tags letter f e)
+    let text = text_in (codes "group") d in
+    let are = fields_are code name (pot_in d) (tags_in (codes "tags") d) (option_and_then letter_of text) f e in
+    record {
+      pot = one_or_two f.pot (passed_test (λ n. nat_le 1 n && nat_le n 2) (number_in (codes "pot") d) f.pot are.0);
+      tags = listed_tags (list_in (codes "tags") d) f.tags are.1;
+      letter = letter_is text f.group_letter are.2;
+    }
 
-team_pot : (i : ℕ) (f : TeamFields) (t : Team) → team_of i f ≡ Ok t → t.pot ≡ f.pot
-team_pot i f t e = go (is_code f.code) e
+-- the team of fields has them
+team_is : (i : ℕ) (f : TeamFields) (t : Team) → team_of i f ≡ Ok t → (t.pot ≡ f.pot) × (t.tags ≡ f.tags) × (t.group_letter ≡ Some f.group_letter)
+team_is i f t e = go (is_code f.code) e
   where
     go : (b : Bool)
         → (if b then Ok (record { code = f.code; name = name_of f.code f.name; pot = f.pot; tags = f.tags; group_letter = Some f.group_letter }) else Err (FileFault.BadCode i)) ≡ Ok t
-        → t.pot ≡ f.pot
-    go true h = cc
+        → (t.pot ≡ f.pot) × (t.tags ≡ f.tags) × (t.group_letter ≡ Some f.group_letter)
+    go true h = (cc, cc, cc)
     go false h = cc
 
-pots : (i : ℕ) (ds : List _) (fs : List TeamFields) (ts : List Team)
-    → all_team_fields ds ≡ Ok fs → teams_from i fs ≡ Ok ts → All IsInPot ts
-pots i [] fs ts e h =
+-- what stands of each team that was read stands of all
+abbrev OfEachRead : (Team → Type 0) → Type 0
+OfEachRead Has = (i : ℕ) (f : TeamFields) (t : Team) → AreRead f → team_of i f ≡ Ok t → Has t
+
+all_have : (Has : Team → Type 0) → OfEachRead Has → (i : ℕ) (ds : List Data) (fs : List TeamFields) (ts : List Team)
+    → all_team_fields ds ≡ Ok fs → teams_from i fs ≡ Ok ts → All Has ts
+all_have Has each i [] fs ts e h =
     let no_fields : fs ≡ [] = cc in
     let no_teams : ts ≡ [] = ends (rw no_fields at h) in
-    rw no_teams (All-nil IsInPot)
+    rw no_teams (All-nil Has)
   where
     ends : teams_from i [] ≡ Ok ts → ts ≡ []
     ends k = cc
-pots i (d ∷ ds) fs ts e h =
+all_have Has each i (d ∷ ds) fs ts e h =
     let first = gave (team_fields d) _ fs e in
     let rest = gave (all_team_fields ds) (λ teams. Ok (first.0 ∷ teams)) fs first.2 in
     let whole : fs ≡ first.0 ∷ rest.0 = cc in
     let team = gave (team_of i first.0) _ ts (rw whole at h) in
     let teams = gave (teams_from (i + 1) rest.0) (λ teams. Ok (team.0 ∷ teams)) ts team.2 in
     let all : ts ≡ team.0 ∷ teams.0 = cc in
-    let stands : IsInPot team.0 = rw (team_pot i first.0 team.0 team.1) (fields_pot d first.0 first.1) in
-    rw all (All-cons IsInPot team.0 teams.0 stands (pots (i + 1) ds rest.0 teams.0 rest.1 teams.1))
+    let stands : Has team.0 = each i first.0 team.0 (are_read d first.0 first.1) team.1 in
+    rw all (All-cons Has team.0 teams.0 stands (all_have Has each (i + 1) ds rest.0 teams.0 rest.1 teams.1))
+
+each_in_pot : OfEachRead IsInPot
+each_in_pot i f t read e = subst (λ (n : ℕ). (n ≡ 1) ⊎ (n ≡ 2)) (sym (team_is i f t e).0) read.pot
+
+each_tagged : OfEachRead HasTags
+each_tagged i f t read e = subst AreTags (sym (team_is i f t e).1) read.tags
+
+each_lettered : OfEachRead HasLetter
+each_lettered i f t read e = (f.group_letter, (team_is i f t e).2, read.letter)
 
 -- ---- the codes
 
@@ -95,7 +159,7 @@ coded i f t e = go (is_code f.code) refl e
     go true is h = let same : f.code ≡ t.code = cc in ap is_code (sym same) ∙ is
     go false is h = cc
 
-all_coded : (i : ℕ) (fs : List TeamFields) (ts : List Team) → teams_from i fs ≡ Ok ts → All HasCode ts
+pub all_coded : (i : ℕ) (fs : List TeamFields) (ts : List Team) → teams_from i fs ≡ Ok ts → All HasCode ts
 all_coded i [] ts e = let none : ts ≡ [] = cc in rw none (All-nil HasCode)
 all_coded i (f ∷ fs) ts e =
     let team = gave (team_of i f) _ ts e in
@@ -212,13 +276,13 @@ fields_kept (Err x) pairs fields e = cc
 fields_kept (Ok ts) (Err x) fields e = cc
 fields_kept (Ok ts) (Ok ps) fields e = cc
 
-teams_in_pots : (d : _) (fields : HeadFields) (teams : List Team)
-    → head_fields d ≡ Ok fields → teams_from 0 fields.teams ≡ Ok teams → All IsInPot teams
-teams_in_pots d fields teams e h =
+all_read : (Has : Team → Type 0) → OfEachRead Has → (d : Data) (fields : HeadFields) (teams : List Team)
+    → head_fields d ≡ Ok fields → teams_from 0 fields.teams ≡ Ok teams → All Has teams
+all_read Has each d fields teams e h =
     let objects = gave (or_wrong (objects_in (codes "teams") d) Field.Teams) _ fields e in
-    pots 0 objects.0 fields.teams teams (fields_kept (all_team_fields objects.0) (or_wrong (pairs_in d) Field.Pairs) fields objects.2) h
+    all_have Has each 0 objects.0 fields.teams teams (fields_kept (all_team_fields objects.0) (or_wrong (pairs_in d) Field.Pairs) fields objects.2) h
 
-form_of : (d : _) (head : Head) (pairs : List Pair) → head_of d ≡ Ok head → pairs_from head.teams 0 head.pairs ≡ Ok pairs
+form_of : (d : Data) (head : Head) (pairs : List Pair) → head_of d ≡ Ok head → pairs_from head.teams 0 head.pairs ≡ Ok pairs
     → HasForm (file_with head pairs)
 form_of d head pairs e h =
     let p = parts d head e in
@@ -236,9 +300,11 @@ form_of d head pairs e h =
       few_teams = rw (teams_size 0 fields.teams head.teams made) (few_teams fields read.few);
       codes = all_coded 0 fields.teams head.teams made;
       distinct_codes = distinct head.teams (rw teams at read.distinct);
-      in_pots = teams_in_pots d fields head.teams read.fields_are made;
+      in_pots = all_read IsInPot each_in_pot d fields head.teams read.fields_are made;
       not_empty = size.0;
       same_size = size.1;
+      tags = all_read HasTags each_tagged d fields head.teams read.fields_are made;
+      letters = all_read HasLetter each_lettered d fields head.teams read.fields_are made;
       few_pairs = rw (pairs_size head.teams 0 head.pairs pairs h) (few_pairs head (d, e));
       pairs = all_name head.teams 0 head.pairs pairs h;
     }

@@ -1,2 +1,3 @@
 pub mod FileForms
 pub mod PairLaws
+pub mod FaultLaws

@@ -1,9 +1,9 @@
 -- The form of a draw file: what can be read off the file alone.
-use Rattle.std.specs.Prelude.{◌≡◌, ◌≢◌, ◌<◌, ◌≤◌, ◌⊎◌, true, List, [], length}
+use Rattle.std.specs.Prelude.{◌≡◌, ◌≢◌, ℕ, ◌<◌, ◌≤◌, ◌⊎◌, true, List, [], ◌∷◌, length, Some}
 use Rattle.std.specs.List.{All}
 use Rattle.team_files.specs.declared.kind.Kind.{Kind}
 use Rattle.team_files.specs.declared.team.Team.{Team}
-use Rattle.team_files.specs.Characters.{is_code}
+use Rattle.team_files.specs.Characters.{is_capital, is_code, is_tag}
 use Rattle.team_files.specs.Teams.{HaveDistinctCodes}
 use Rattle.team_files.specs.Heads.{pot_size}
 use Rattle.rule_sets.specs.declared.pair.Pair.{Pair}
@@ -16,6 +16,20 @@ HasCode team = is_code team.code ≡ true
 -- the team stands in pot 1, with the winners, or in pot 2, with the runners-up
 abbrev pub IsInPot : Team → Type 0
 IsInPot team = (team.pot ≡ 1) ⊎ (team.pot ≡ 2)
+
+-- one tag or two different ones; a tag is 1 to 16 characters A to Z or 0 to 9
+abbrev pub AreTags : List (List ℕ) → Type 0
+AreTags [] = ⊥
+AreTags (a ∷ []) = is_tag a ≡ true
+AreTags (a ∷ b ∷ []) = (is_tag a ≡ true) × (is_tag b ≡ true) × (a ≢ b)
+AreTags (a ∷ b ∷ c ∷ tags) = ⊥
+
+abbrev pub HasTags : Team → Type 0
+HasTags team = AreTags team.tags
+
+-- the team has the letter, A to Z, of its first-round group
+abbrev pub HasLetter : Team → Type 0
+HasLetter team = (letter : ℕ) × (team.group_letter ≡ Some letter) × (is_capital letter ≡ true)
 
 -- the pair names two different teams of the list
 pub record NamesTwoTeams (teams : List Team) (pair : Pair) : Type 0 where
@@ -39,6 +53,9 @@ pub record HasForm (file : DrawFile) : Type 0 where
   pub in_pots : All IsInPot file.teams
   pub not_empty : pot_size 1 file.teams ≢ 0
   pub same_size : pot_size 2 file.teams ≡ pot_size 1 file.teams
+  -- each team has its tags, and the letter of its group
+  pub tags : All HasTags file.teams
+  pub letters : All HasLetter file.teams
   -- it forbids at most 64 pairs, each of two different teams
   pub few_pairs : length file.pairs ≤ 64
   pub pairs : All (NamesTwoTeams file.teams) file.pairs

@@ -1,3 +1,4 @@
 pub mod Files
 pub mod Forms
 pub mod BadPairs
+pub mod FileFaults

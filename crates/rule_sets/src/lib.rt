@@ -13,4 +13,4 @@ pub use draw_file::DrawFile;
 pub use limit::Limit;
 pub use pair::Pair;
 pub use place::Place;
-pub use rules::{law_files_have_form, law_first_bad_pair, rules_from};
+pub use rules::{law_files_have_form, law_first_bad_pair, law_first_fault_of_bytes, rules_from};

@@ -2,6 +2,7 @@ ghost use Rattle.std.specs.Prelude.{◌≡◌, ◌≢◌, ◌≤◌, length, Ok,
 ghost use Rattle.team_files.specs.Answers.{Gives};
 ghost use Rattle.rule_sets.specs.Files.{file_of, team_named, pair_of, pairs_from};
 ghost use Rattle.rule_sets.specs.BadPairs.{TellsFirstBadPair};
+ghost use Rattle.rule_sets.specs.FileFaults.{TellsFirstFaultOfBytes};
 ghost use Rattle.rule_sets.specs.Forms.{FilesHaveForm};
 
 use crate::draw_file::DrawFile;
@@ -57,7 +58,8 @@ fn pair_of(teams: &Teams, place: u32, pair: &HeadPair) -> Result<Pair, FileFault
 }
 
 /// Each well-formed draw file has the form of one: a pairing of at most 40 teams in two pots of one
-/// size, and at most 64 forbidden pairs of two different teams. Does nothing.
+/// size, each with one tag or two different ones and with the letter of its first-round group, and
+/// at most 64 forbidden pairs of two different teams. Does nothing.
 pub fn law_files_have_form()
     ensures { FilesHaveForm }
 {}
@@ -66,4 +68,10 @@ pub fn law_files_have_form()
 /// both are one team's. Does nothing.
 pub fn law_first_bad_pair()
     ensures { TellsFirstBadPair }
+{}
+
+/// What the bytes of a head are refused for is the first fault that holds of them, in the order of
+/// their numbers, and they have a draw file exactly where none holds. Does nothing.
+pub fn law_first_fault_of_bytes()
+    ensures { TellsFirstFaultOfBytes }
 {}
