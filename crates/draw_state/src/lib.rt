@@ -1,4 +1,5 @@
-//! Commands and replies of a draw: the accepted choice or the first refusal, and runs of commands.
+//! States of a draw, and its commands and replies: a state takes only candidates' moves; the accepted
+//! choice or the first refusal of a command, and runs of commands.
 #![tactic(auto)]
 
 mod commands;

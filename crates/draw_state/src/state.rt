@@ -161,6 +161,7 @@ fn choice_of_move(phase: Phase, next: Move) -> Option<Choice>
         (Phase::Opponent { runner }, Move::Paired(other, winner)) if other == runner => {
             Some(Choice::Team(winner))
         }
+        // `move_of` is total; in Complete no choice is a candidate, so that this one is never taken.
         (Phase::Complete, Move::Drawn(team)) => Some(Choice::Team(team)),
         _ => None,
     }

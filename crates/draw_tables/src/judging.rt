@@ -42,7 +42,7 @@ pub fn judge(file: &DrawFile, table: &Table) -> Verdict
     Verdict::Legal
 }
 
-/// What the type of a file says of its form. Does nothing.
+/// What the type of a file says of its form, for the bounds in what follows. Does nothing.
 pub(crate) fn expect_form(file: &DrawFile)
     ensures formed { IsWellFormed file.now }
     ensures form { HasForm file.now }

@@ -133,6 +133,15 @@ fn statuses_of_a_check_have_their_causes(rt: HostRuntime) -> Result<(), Fail> {
             CHECK_USAGE,
         ),
         (
+            &["replay"],
+            4096,
+            None,
+            4096,
+            None,
+            Status::Usage,
+            CHECK_USAGE,
+        ),
+        (
             &["judge", "judge"],
             4096,
             None,
@@ -156,5 +165,33 @@ fn statuses_of_a_check_have_their_causes(rt: HostRuntime) -> Result<(), Fail> {
         assert_eq!(rt; ended, status, "{room}");
         assert_eq!(rt; text.as_str(), wrote, "{room}");
     }
+    Ok(())
+}
+
+/// Whether a legal table of two teams, behind spaces that fill the input to so many bytes, ends with
+/// the status and this text.
+fn filled_gives(
+    alloc: Global,
+    size: usize,
+    status: Status,
+    wanted: &str,
+) -> Result<bool, AllocError> {
+    let judge = words(alloc, &["judge"])?;
+    let text = input(alloc, TWO_TEAMS, "AAA\n")?;
+    let mut bytes = Vec::new(alloc);
+    for _ in text.len()..size {
+        bytes.push(b' ')?;
+    }
+    bytes.extend_from_slice(text.as_bytes())?;
+    let (ended, wrote) = run(alloc, &judge, &bytes, fine())?;
+    Ok(ended == status && wrote.as_str() == wanted)
+}
+
+/// At most 4,194,304 bytes are taken.
+#[test]
+fn a_check_keeps_the_limit_of_bytes(rt: HostRuntime) -> Result<(), Fail> {
+    let alloc = rt.alloc();
+    assert!(rt; filled_gives(alloc, 4_194_304, Status::Ok, "legal\n")?);
+    assert!(rt; filled_gives(alloc, 4_194_305, Status::TooLong, "")?);
     Ok(())
 }

@@ -9,7 +9,7 @@ ghost use Rattle.draw_top.specs.Follow.{words_of, GainsRefusal, FitsLimit, Passe
 ghost use Rattle.draw_top.specs.Check.{AreTableLine, IsJudge, check_usage_line, broken_line, GainsApproval, GainsObjection, GainsReportPart, HoldsLegal, HoldsIllegal};
 ghost use Rattle.draw_top.specs.Reports.{IsTableReport, IsReportOf};
 
-use crate::heads::{INPUT_LIMIT, read_file, refusal_line};
+use crate::heads::{INPUT_LIMIT, file_of_head, refusal_line};
 use crate::status::Status;
 use draw_lines::{first_line, split_input};
 use draw_ports::{PortFault, Sink, Source, put_all, read_all};
@@ -49,7 +49,7 @@ fn report_of(alloc: Global, input: &[u8]) -> Result<Report, AllocError>
     ensures { IfOk result (λ report. IsReportOf input.now report) }
 {
     let (head, commands) = split_input(input);
-    match read_file(alloc, head) {
+    match file_of_head(alloc, head) {
         Ok(file) => {
             let report = table_report(alloc, &file, commands)?;
             Ok(report)
@@ -188,6 +188,8 @@ pub fn run_check<S: Source, K: Sink>(
         Err(PortFault::TooLong { limit: _ }) => return Status::TooLong,
         Err(_) => return Status::NoMemory,
     };
+    // For the clauses `complete` and `complete_not_valid`: a text is of one table, and what breaks no
+    // rule is legal.
     law_one_table_of_text();
     law_legal_where_nothing_broken();
     match report_of(alloc, &input) {

@@ -1,5 +1,5 @@
 use crate::tests::{ROUND_OF_16, TWO_TEAMS, file_of};
-use count_core::{Atom, Lit, satisfied};
+use count_core::{Lit, Problem, satisfied};
 use draw_state::State;
 use draw_tables::{Move, Table};
 use pairing_draw::{decode, encode, lits_of};
@@ -33,10 +33,51 @@ fn values_of(alloc: Global, winners: usize, given: &[usize]) -> Result<Vec<bool>
     Ok(values)
 }
 
-/// How many atoms and rules a file has.
-fn size_of(alloc: Global, file: &DrawFile) -> Result<(u32, usize), AllocError> {
+/// Whether the literals are positive ones of these atoms.
+fn are_positive(lits: &[Lit], atoms: &[u32]) -> bool {
+    for (lit, atom) in lits.iter().zip(atoms) {
+        if !lit.positive || lit.atom.0 != *atom {
+            return false;
+        }
+    }
+    lits.len() == atoms.len()
+}
+
+/// Whether the rule with this number bounds so the atoms.
+fn is_rule(problem: &Problem, number: usize, atoms: &[u32], bounds: (u32, u32)) -> bool {
+    match problem.rules().get(number) {
+        Some(rule) => { (rule.lo, rule.hi) == bounds && are_positive(rule.lits.as_slice(), atoms) }
+        None => false,
+    }
+}
+
+/// Rules of the round of 16 by their numbers: the first runner-up's, the first and the last
+/// winner's, and of pairs that may not meet Paris with Manchester City (one group) and with Lille
+/// (one association), and the last one, Chelsea with Juventus (one group).
+const RULES: [(usize, &[u32], (u32, u32)); 6] = [
+    (0, &[0, 1, 2, 3, 4, 5, 6, 7], (1, 1)),
+    (8, &[0, 8, 16, 24, 32, 40, 48, 56], (1, 1)),
+    (15, &[7, 15, 23, 31, 39, 47, 55, 63], (1, 1)),
+    (16, &[0], (0, 0)),
+    (17, &[6], (0, 0)),
+    (30, &[63], (0, 0)),
+];
+
+/// Whether the file has so many atoms and rules, and these rules.
+fn is_encoded(
+    alloc: Global,
+    file: &DrawFile,
+    atoms: u32,
+    number: usize,
+    rules: &[(usize, &[u32], (u32, u32))],
+) -> Result<bool, AllocError> {
     let problem = encode(alloc, file)?;
-    Ok((problem.atoms(), problem.rules().len()))
+    for (place, over, bounds) in rules {
+        if !is_rule(&problem, *place, over, *bounds) {
+            return Ok(false);
+        }
+    }
+    Ok(problem.atoms() == atoms && problem.rules().len() == number)
 }
 
 /// 64 pairs; 8 rules of runners-up, 8 of winners, and 15 pairs that may not meet: 8 of one group
@@ -45,9 +86,10 @@ fn size_of(alloc: Global, file: &DrawFile) -> Result<(u32, usize), AllocError> {
 fn a_pairing_is_counted(rt: HostRuntime) -> Result<(), Fail> {
     let alloc = rt.alloc();
     let file = file_of(alloc, ROUND_OF_16)?;
-    assert_eq!(rt; size_of(alloc, &file)?, (64, 31));
+    assert!(rt; is_encoded(alloc, &file, 64, 31, &RULES)?);
     let small = file_of(alloc, TWO_TEAMS)?;
-    assert_eq!(rt; size_of(alloc, &small)?, (1, 2));
+    let both: &[(usize, &[u32], (u32, u32))] = &[(0, &[0], (1, 1)), (1, &[0], (1, 1))];
+    assert!(rt; is_encoded(alloc, &small, 1, 2, both)?);
     Ok(())
 }
 
@@ -81,19 +123,21 @@ fn values_make_tables(rt: HostRuntime) -> Result<(), Fail> {
     Ok(())
 }
 
-/// Whether the state's moves have no literal after a drawn ball, and one after its pair.
-fn have_literals(alloc: Global, state: &mut State) -> Result<bool, AllocError> {
-    let drawn = state.apply(alloc, Move::Drawn(TeamId(1))).is_ok();
+/// Whether the state's moves have no literal after a drawn runner-up, and after its pair that of
+/// the atom.
+fn have_literals(
+    alloc: Global,
+    state: &mut State,
+    runner: TeamId,
+    winner: TeamId,
+    atom: u32,
+) -> Result<bool, AllocError> {
+    let drawn = state.apply(alloc, Move::Drawn(runner)).is_ok();
     let before = lits(alloc, state)?;
-    let paired = state
-        .apply(alloc, Move::Paired(TeamId(1), TeamId(0)))
-        .is_ok();
+    let paired = state.apply(alloc, Move::Paired(runner, winner)).is_ok();
     let after = lits(alloc, state)?;
-    let pair = Lit {
-        atom: Atom(0),
-        positive: true,
-    };
-    Ok(drawn && paired && before.is_empty() && after.as_slice() == [pair].as_slice())
+    let one = are_positive(after.as_slice(), &[atom]);
+    Ok(drawn && paired && before.is_empty() && one)
 }
 
 /// The literals of a state's moves.
@@ -101,12 +145,13 @@ fn lits(alloc: Global, state: &State) -> Result<Vec<Lit>, AllocError> {
     lits_of(alloc, state.file(), state.moves())
 }
 
-/// A drawn ball has no literal, a pair has one.
+/// A drawn ball has no literal, a pair has one. Villarreal is the sixth runner-up, Juventus the
+/// eighth winner.
 #[test]
 fn moves_have_literals(rt: HostRuntime) -> Result<(), Fail> {
     let alloc = rt.alloc();
-    let file = file_of(alloc, TWO_TEAMS)?;
+    let file = file_of(alloc, ROUND_OF_16)?;
     let mut state = State::start(alloc, &file)?;
-    assert!(rt; have_literals(alloc, &mut state)?);
+    assert!(rt; have_literals(alloc, &mut state, TeamId(13), TeamId(7), 47)?);
     Ok(())
 }

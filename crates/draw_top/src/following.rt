@@ -12,7 +12,7 @@ ghost use Rattle.draw_top.specs.Replies.{IsReplyTo};
 ghost use Rattle.draw_top.specs.Outputs.{IsOutputOf};
 ghost use Rattle.draw_top.specs.Follow.{words_of, IsFollow, usage_line, GainsAnswer, GainsRefusal, GainsPart, FitsLimit, PassesLimit, HoldsFile, HoldsNoFile, TellsTooMuch};
 
-use crate::heads::{INPUT_LIMIT, read_file, refusal_line};
+use crate::heads::{INPUT_LIMIT, file_of_head, refusal_line};
 use crate::status::Status;
 use crate::turn::Turn;
 use draw_lines::{first_line, opening_text, read_line, reply_text, split_input};
@@ -87,7 +87,7 @@ fn output_of(alloc: Global, input: &[u8]) -> Result<Output, AllocError>
     ensures { IfOk result (λ output. IsOutputOf input.now output) }
 {
     let (head, commands) = split_input(input);
-    match read_file(alloc, head) {
+    match file_of_head(alloc, head) {
         Ok(file) => {
             let text = answer_text(alloc, &file, commands)?;
             Ok(Output::Answer(text))

@@ -13,7 +13,7 @@ use team_files::{FileFault, read_head};
 pub const INPUT_LIMIT: u64 = 4_194_304;
 
 /// The draw file of a head, or its first fault.
-pub fn read_file(alloc: Global, head: &[u8]) -> Result<DrawFile, FileFault>
+pub fn file_of_head(alloc: Global, head: &[u8]) -> Result<DrawFile, FileFault>
     ensures ok { IfOk result (λ file. IsFileOf head.now file) }
     ensures fault { IfErr result (λ f. f ≢ FileFault.NoMemory → IsFileFault head.now f) }
 {

@@ -11,17 +11,19 @@ const WINNER: TeamId = TeamId(0);
 
 const RUNNER: TeamId = TeamId(1);
 
-/// Whether the state's phase has just this candidate, and the other team's ball is no candidate.
+/// Whether the state's phase has just this candidate, whose move is `next`, and the other team's ball
+/// is no candidate.
 fn has_candidate(
     alloc: Global,
     state: &State,
     team: TeamId,
+    next: Move,
     other: TeamId,
 ) -> Result<bool, AllocError> {
     let candidates = state.candidates(alloc)?;
     Ok(
         candidates.as_slice() == [Choice::Team(team)].as_slice()
-            && state.move_of(Choice::Team(team)).is_some()
+            && state.move_of(Choice::Team(team)) == Some(next)
             && state.move_of(Choice::Team(other)).is_none(),
     )
 }
@@ -33,7 +35,7 @@ fn is_refused(alloc: Global, state: &mut State, next: Move) -> bool {
 
 /// Whether the draw of two teams begins with the runner-up's ball, and with nothing else.
 fn begins_with_the_runner_up(alloc: Global, state: &mut State) -> Result<bool, AllocError> {
-    let runner = has_candidate(alloc, state, RUNNER, WINNER)?;
+    let runner = has_candidate(alloc, state, RUNNER, Move::Drawn(RUNNER), WINNER)?;
     Ok(
         runner
             && state.phase() == Phase::Runner
@@ -46,7 +48,8 @@ fn begins_with_the_runner_up(alloc: Global, state: &mut State) -> Result<bool, A
 
 /// Whether its opponent comes then, and with it the draw is complete.
 fn ends_with_its_opponent(alloc: Global, state: &mut State) -> Result<bool, AllocError> {
-    let winner = has_candidate(alloc, state, WINNER, RUNNER)?;
+    let paired = Move::Paired(RUNNER, WINNER);
+    let winner = has_candidate(alloc, state, WINNER, paired, RUNNER)?;
     Ok(
         winner
             && state.phase() == Phase::Opponent { runner: RUNNER }

@@ -11,12 +11,14 @@ use pairing_draw::{
     law_completable_where_satisfied, law_offer_exists, law_one_offer,
     law_rules_and_questions_are_formed, law_tables_satisfy, law_values_complete,
 };
-use rule_sets::{DrawFile, rules_from};
+use rule_sets::{
+    DrawFile, law_files_have_form, law_first_bad_pair, law_first_fault_of_bytes, rules_from,
+};
 use std::alloc::{AllocError, Global};
 use std::sync::Wait;
 use std::test::Fail;
 use std::thread::Threads;
-use team_files::{FileFault, Kind, read_head};
+use team_files::{FileFault, Kind, law_find_by_code, law_first_fault, law_same_code, read_head};
 
 pub(crate) const ROUND_OF_16: &str =
     r#"{"kind":"pairing","teams":[{"code":"MCI","pot":1,"tags":["ENG"],"group":"A"},{"code":"LIV","pot":1,"tags":["ENG"],"group":"B"},{"code":"AJX","pot":1,"tags":["NED"],"group":"C"},{"code":"RMA","pot":1,"tags":["ESP"],"group":"D"},{"code":"BAY","pot":1,"tags":["GER"],"group":"E"},{"code":"MUN","pot":1,"tags":["ENG"],"group":"F"},{"code":"LIL","pot":1,"tags":["FRA"],"group":"G"},{"code":"JUV","pot":1,"tags":["ITA"],"group":"H"},{"code":"PSG","pot":2,"tags":["FRA"],"group":"A"},{"code":"ATM","pot":2,"tags":["ESP"],"group":"B"},{"code":"SCP","pot":2,"tags":["POR"],"group":"C"},{"code":"INT","pot":2,"tags":["ITA"],"group":"D"},{"code":"BEN","pot":2,"tags":["POR"],"group":"E"},{"code":"VIL","pot":2,"tags":["ESP"],"group":"F"},{"code":"RBS","pot":2,"tags":["AUT"],"group":"G"},{"code":"CHE","pot":2,"tags":["ENG"],"group":"H"}]}"#;
@@ -221,14 +223,74 @@ fn refused_heads_are_told(rt: HostRuntime) -> Result<(), Fail> {
             "8 SameCode AAA\n",
         ),
         (
+            r#"{"kind":"pairing","teams":[{"code":"AAA","pot":1,"tags":["X"],"group":"A"},{"code":"BBB","pot":1,"tags":["Y"],"group":"B"}]}"#,
+            "9 PotSize 2 0\n",
+        ),
+        (
+            r#"{"kind":"pairing","teams":[{"code":"AAA","pot":1,"tags":["X"],"group":"A"},{"code":"BBB","pot":2,"tags":["Y"],"group":"B"}],"pairs":[["AAA","CCC"]]}"#,
+            "11 BadPair 0\n",
+        ),
+        (
             r#"{"kind":"pairing","teams":[{"code":"AAA","pot":1,"tags":["X"],"group":"A"},{"code":"BBB","pot":2,"tags":["Y"],"group":"B"}],"pairs":[["AAA","BBB"],["AAA","CCC"]]}"#,
             "11 BadPair 1\n",
+        ),
+        // A pair that is none beside a code that stands twice, and beside a pot of the wrong size.
+        (
+            r#"{"pairs":[["AAA","CCC"]],"kind":"pairing","teams":[{"code":"AAA","pot":1,"tags":["X"],"group":"A"},{"code":"AAA","pot":2,"tags":["Y"],"group":"B"}]}"#,
+            "8 SameCode AAA\n",
+        ),
+        (
+            r#"{"pairs":[["AAA","AAA"]],"kind":"pairing","teams":[{"code":"AAA","pot":1,"tags":["X"],"group":"A"}]}"#,
+            "9 PotSize 2 0\n",
         ),
     ] {
         let wanted = ("file refused ", line);
         assert!(rt;
             gives(&rt, alloc, head, "", Status::FileRefused, wanted)?,
             "{head}"
+        );
+    }
+    Ok(())
+}
+
+/// The head of so many teams of one code, and of so many pairs of it.
+fn crowded_head(alloc: Global, teams: u32, pairs: u32) -> Result<String, AllocError> {
+    let mut head = String::from_str(alloc, r#"{"kind":"pairing","teams":["#)?;
+    for _ in 1..teams {
+        head.push_str(r#"{"code":"AAA","pot":1,"tags":["X"],"group":"A"},"#)?;
+    }
+    head.push_str(r#"{"code":"AAA","pot":1,"tags":["X"],"group":"A"}],"pairs":["#)?;
+    for _ in 1..pairs {
+        head.push_str(r#"["AAA","AAA"],"#)?;
+    }
+    head.push_str(r#"["AAA","AAA"]]}"#)?;
+    Ok(head)
+}
+
+/// Whether the line of such a head is this one.
+fn crowd_is_told<R: Threads + Wait + Sync>(
+    rt: &R,
+    alloc: Global,
+    teams: u32,
+    pairs: u32,
+    line: &str,
+) -> Result<bool, AllocError> {
+    let head = crowded_head(alloc, teams, pairs)?;
+    let wanted = ("file refused ", line);
+    gives(rt, alloc, head.as_str(), "", Status::FileRefused, wanted)
+}
+
+/// At most 40 teams and 64 pairs; more are told with their number.
+#[test]
+fn crowded_heads_are_told(rt: HostRuntime) -> Result<(), Fail> {
+    for (teams, pairs, line) in [
+        (41, 65, "6 TooMany teams 41\n"),
+        (40, 65, "6 TooMany pairs 65\n"),
+        (40, 64, "8 SameCode AAA\n"),
+    ] {
+        assert!(rt;
+            crowd_is_told(&rt, rt.alloc(), teams, pairs, line)?,
+            "{line}"
         );
     }
     Ok(())
@@ -390,6 +452,12 @@ fn the_laws_return(rt: HostRuntime) {
     law_one_table_of_text();
     law_offer_exists();
     law_states_stay();
+    law_first_fault();
+    law_find_by_code();
+    law_same_code();
+    law_first_bad_pair();
+    law_first_fault_of_bytes();
+    law_files_have_form();
     law_pieces_join();
     law_one_answer();
     law_answer_exists();

@@ -1,8 +1,8 @@
-use crate::{DrawFile, rules_from};
+use crate::{DrawFile, Limit, rules_from};
 use std::alloc::{AllocError, Global};
 use std::process::Abort;
 use std::test::Fail;
-use team_files::{FileFault, Kind, TeamId, read_head};
+use team_files::{FileFault, Kind, Tag, Team, TeamId, read_head};
 
 /// A head of two teams with forbidden pairs.
 fn file_with(alloc: Global, pairs: &str) -> Result<DrawFile, FileFault> {
@@ -48,6 +48,15 @@ fn pairs_are_looked_up(rt: HostRuntime) -> Result<(), Fail> {
     Ok(())
 }
 
+fn expect_team(rt: &impl Abort, team: &Team, pot: u32, tags: &[&str], letter: u8) {
+    assert_eq!(rt; team.pot, pot);
+    assert_eq!(rt; team.group_letter, Some(letter));
+    assert_eq!(rt; team.tags.as_slice().len(), tags.len());
+    for (tag, wanted) in team.tags.as_slice().iter().zip(tags) {
+        assert!(rt; tag.bytes() == wanted.as_bytes());
+    }
+}
+
 /// The file of two teams with one pair, the second team first.
 fn expect_file(rt: &impl Abort, file: &DrawFile) {
     assert_eq!(rt; file.kind(), Kind::Pairing);
@@ -59,9 +68,30 @@ fn expect_file(rt: &impl Abort, file: &DrawFile) {
     assert_eq!(rt; file.pairs()[0].first, TeamId(1));
     assert_eq!(rt; file.pairs()[0].second, TeamId(0));
     assert_eq!(rt; file.teams().number(), 2);
+    expect_team(rt, file.teams().get(TeamId(0)), 1, &["X", "Y"], b'A');
+    expect_team(rt, file.teams().get(TeamId(1)), 2, &["Z"], b'B');
     let second = file.teams().get(TeamId(1));
     assert!(rt; second.name.bytes() == "Bilbao".as_bytes());
     assert_eq!(rt; file.teams().find(second.code), Some(TeamId(1)));
+}
+
+/// The first tag of the file's first team.
+fn first_tag(file: &DrawFile) -> Option<&Tag> {
+    if file.teams().number() == 0 {
+        return None;
+    }
+    file.teams().get(TeamId(0)).tags.as_slice().first()
+}
+
+/// Whether a copy of a limit of the tag has its members.
+fn limit_is_copied(alloc: Global, tag: &Tag) -> Result<bool, AllocError> {
+    let limit = Limit {
+        tag: tag.clone_in(alloc)?,
+        lo: 1,
+        hi: 2,
+    };
+    let copy = limit.clone_in(alloc)?;
+    Ok(copy.tag.bytes() == tag.bytes() && copy.lo == 1 && copy.hi == 2)
 }
 
 #[test]
@@ -70,5 +100,10 @@ fn a_file_is_copied(rt: HostRuntime) -> Result<(), Fail> {
     expect_file(&rt, &file);
     let copy = file.clone_in(rt.alloc())?;
     expect_file(&rt, &copy);
+    let copied = match first_tag(&copy) {
+        Some(tag) => limit_is_copied(rt.alloc(), tag)?,
+        None => false,
+    };
+    assert!(rt; copied);
     Ok(())
 }

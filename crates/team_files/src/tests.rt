@@ -34,6 +34,10 @@ FieldWrong Teams: {"kind":"pairing","teams":null}
 FieldWrong Teams: {"kind":"pairing","teams":[7]}
 FieldWrong Teams: {"kind":"pairing","pairs":7,"teams":{}}
 FieldWrong Pairs: {"kind":"pairing","pairs":7,"teams":[]}
+FieldMissing Code: {"kind":"pairing","teams":[{"code":7,"pot":2,"tags":["Y"],"group":"B"},{"pot":2}]}
+FieldMissing Code: {"kind":"pairing","teams":[{"pot":2},{"code":7,"pot":2,"tags":["Y"],"group":"B"}]}
+FieldMissing Code: {"kind":"pairing","teams":[7,{}]}
+FieldMissing Code: {"kind":"pairing","teams":[{},7]}
 PotSize 1 0: {"kind":"pairing","teams":[]}
 PotSize 1 0: {"kind":"pairing","groups":-1,"pots":"2","teams":[],"limits":7,"places":[7]}
 "#;
@@ -133,6 +137,7 @@ none: AAA/1 BBB/2
 none: BBB/2 AAA/1
 none: AAA/1 BBB/2 CCC/1 DDD/2
 none: DDD/2 CCC/1 BBB/2 AAA/1
+none: A00/1 A01/1 A02/1 A03/1 A04/1 A05/1 A06/1 A07/1 A08/1 A09/1 A10/1 A11/1 A12/1 A13/1 A14/1 A15/1 A16/1 A17/1 A18/1 A19/1 B00/2 B01/2 B02/2 B03/2 B04/2 B05/2 B06/2 B07/2 B08/2 B09/2 B10/2 B11/2 B12/2 B13/2 B14/2 B15/2 B16/2 B17/2 B18/2 B19/2
 BadCode 2: AAA/1 AAA/1 bbb/2
 BadCode 0: bbb/2 AAA/1 AAA/1
 BadCode 0: bbb/2 bbb/2
