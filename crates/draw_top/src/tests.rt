@@ -86,8 +86,11 @@ pub(crate) fn words(alloc: Global, list: &[&str]) -> Result<Vec<String>, AllocEr
     Ok(words)
 }
 
-/// A head, the separator and command lines.
+/// A head, the separator and command lines; the head alone where there are none.
 pub(crate) fn input(alloc: Global, head: &str, lines: &str) -> Result<String, AllocError> {
+    if lines.is_empty() {
+        return String::from_str(alloc, head);
+    }
     format!(in alloc; "{head}\n--\n{lines}")
 }
 
