@@ -27,8 +27,8 @@ use Rattle.rule_sets.specs.Forms.{HasCode, IsInPot, AreTags, HasTags, HasLetter,
 
 -- ---- the pots, tags and letters
 
-one_or_two : (n : ℕ) → (nat_le 1 n && nat_le n 2) ≡ true → (n ≡ 1) ⊎ (n ≡ 2)
-one_or_two n e = grind (arith, nat_tests)
+one_or_two : (n : ℕ) → (nat_le 1 n && nat_le n 2) ≡ true → (1 ≤ n) × (n ≤ 2)
+one_or_two n e = (grind (arith, nat_tests), grind (arith, nat_tests))
 
 -- a value that was kept passed the test
 passed_test : {A : Type 0} (test : A → Bool) (value : Option A) (a : A) → option_and_then (λ x. where_true (test x) x) value ≡ Some a → test a ≡ true
@@ -90,7 +90,7 @@ fields_are (Ok c) (Ok n) (Some p) (Some t) (Some l) f e = (cc, cc, cc)
 
 -- What the fields of a team are.
 record AreRead (f : TeamFields) : Type 0 where
-  pot : (f.pot ≡ 1) ⊎ (f.pot ≡ 2)
+  pot : (1 ≤ f.pot) × (f.pot ≤ 2)
   tags : AreTags f.tags
   letter : is_capital f.group_letter ≡ true
 
@@ -139,8 +139,8 @@ all_have Has each i (d ∷ ds) fs ts e h =
     let stands : Has team.0 = each i first.0 team.0 (are_read d first.0 first.1) team.1 in
     rw all (All-cons Has team.0 teams.0 stands (all_have Has each (i + 1) ds rest.0 teams.0 rest.1 teams.1))
 
-each_in_pot : OfEachRead IsInPot
-each_in_pot i f t read e = subst (λ (n : ℕ). (n ≡ 1) ⊎ (n ≡ 2)) (sym (team_is i f t e).0) read.pot
+each_in_pot : OfEachRead (IsInPot 2)
+each_in_pot i f t read e = subst (λ (n : ℕ). (1 ≤ n) × (n ≤ 2)) (sym (team_is i f t e).0) read.pot
 
 each_tagged : OfEachRead HasTags
 each_tagged i f t read e = subst AreTags (sym (team_is i f t e).1) read.tags
@@ -291,22 +291,26 @@ form_of d head pairs e h =
     let teams : p.1 ≡ head.teams = ap (λ x. x.teams) read.whole in
     let made : teams_from 0 fields.teams ≡ Ok head.teams = rw teams at read.teams_are in
     let size = sizes head.teams (rw teams at read.sizes) in
+    let pots : head.pots ≡ 2 = sym (ap (λ x. x.pots) read.whole) in
     record {
-      kind = sym (ap (λ x. x.kind) read.whole);
-      groups = sym (ap (λ x. x.groups) read.whole);
-      pots = sym (ap (λ x. x.pots) read.whole);
-      limits = refl;
-      places = refl;
-      few_teams = rw (teams_size 0 fields.teams head.teams made) (few_teams fields read.few);
-      codes = all_coded 0 fields.teams head.teams made;
-      distinct_codes = distinct head.teams (rw teams at read.distinct);
-      in_pots = all_read IsInPot each_in_pot d fields head.teams read.fields_are made;
-      not_empty = size.0;
-      same_size = size.1;
-      tags = all_read HasTags each_tagged d fields head.teams read.fields_are made;
-      letters = all_read HasLetter each_lettered d fields head.teams read.fields_are made;
-      few_pairs = rw (pairs_size head.teams 0 head.pairs pairs h) (few_pairs head (d, e));
-      pairs = all_name head.teams 0 head.pairs pairs h;
+      common = record {
+        few_teams = rw (teams_size 0 fields.teams head.teams made) (few_teams fields read.few);
+        codes = all_coded 0 fields.teams head.teams made;
+        distinct_codes = distinct head.teams (rw teams at read.distinct);
+        in_pots = subst (λ n. All (IsInPot n) head.teams) (sym pots) (all_read (IsInPot 2) each_in_pot d fields head.teams read.fields_are made);
+        tags = all_read HasTags each_tagged d fields head.teams read.fields_are made;
+        few_pairs = rw (pairs_size head.teams 0 head.pairs pairs h) (few_pairs head (d, e));
+        pairs = all_name head.teams 0 head.pairs pairs h;
+      };
+      pairing = λ kind. record {
+        pots = pots;
+        groups = sym (ap (λ x. x.groups) read.whole);
+        limits = refl;
+        places = refl;
+        not_empty = size.0;
+        same_size = size.1;
+        letters = all_read HasLetter each_lettered d fields head.teams read.fields_are made;
+      };
     }
 
 pub files_have_form : FilesHaveForm

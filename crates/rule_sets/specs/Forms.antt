@@ -1,21 +1,23 @@
--- The form of a draw file: what can be read off the file alone.
-use Rattle.std.specs.Prelude.{◌≡◌, ◌≢◌, ℕ, ◌<◌, ◌≤◌, ◌⊎◌, true, List, [], ◌∷◌, length, Some}
+-- The form of a draw file: what can be read off the file alone. What all kinds share, and what each kind adds.
+use Rattle.std.specs.Prelude.{◌≡◌, ◌≢◌, ℕ, ◌<◌, ◌≤◌, true, List, [], ◌∷◌, length, Some}
 use Rattle.std.specs.List.{All}
 use Rattle.team_files.specs.declared.kind.Kind.{Kind}
 use Rattle.team_files.specs.declared.team.Team.{Team}
 use Rattle.team_files.specs.Characters.{is_capital, is_code, is_tag}
 use Rattle.team_files.specs.Teams.{HaveDistinctCodes}
-use Rattle.team_files.specs.Heads.{pot_size}
+use Rattle.team_files.specs.Heads.{most_teams, most_pairs, pot_size}
 use Rattle.rule_sets.specs.declared.pair.Pair.{Pair}
 use Rattle.rule_sets.specs.Files.{DrawFile, IsWellFormed}
+
+-- ---- a team and a pair
 
 -- the team's code is three characters A to Z or 0 to 9
 abbrev pub HasCode : Team → Type 0
 HasCode team = is_code team.code ≡ true
 
--- the team stands in pot 1, with the winners, or in pot 2, with the runners-up
-abbrev pub IsInPot : Team → Type 0
-IsInPot team = (team.pot ≡ 1) ⊎ (team.pot ≡ 2)
+-- the team stands in one of so many pots, which count from 1
+abbrev pub IsInPot : ℕ → Team → Type 0
+IsInPot pots team = (1 ≤ team.pot) × (team.pot ≤ pots)
 
 -- one tag or two different ones; a tag is 1 to 16 characters A to Z or 0 to 9
 abbrev pub AreTags : List (List ℕ) → Type 0
@@ -37,28 +39,37 @@ pub record NamesTwoTeams (teams : List Team) (pair : Pair) : Type 0 where
   pub second : pair.second.0 < length teams
   pub different : pair.first.0 ≢ pair.second.0
 
--- The form of a draw file.
-pub record HasForm (file : DrawFile) : Type 0 where
-  -- it is of a pairing, which has two pots, no groups, no limits and no fixed places
-  pub kind : file.kind ≡ Kind.Pairing
-  pub groups : file.groups ≡ 0
-  pub pots : file.pots ≡ 2
-  pub limits : file.limits ≡ []
-  pub places : file.places ≡ []
+-- ---- the form
+
+-- What the files of all kinds share.
+pub record HasCommonForm (file : DrawFile) : Type 0 where
   -- it has at most 40 teams, each with a code, and no two have one code
-  pub few_teams : length file.teams ≤ 40
+  pub few_teams : length file.teams ≤ most_teams
   pub codes : All HasCode file.teams
   pub distinct_codes : HaveDistinctCodes file.teams
-  -- each team stands in a pot; pot 1 is not empty, and pot 2 is of its size
-  pub in_pots : All IsInPot file.teams
+  -- each team stands in a pot and has its tags
+  pub in_pots : All (IsInPot file.pots) file.teams
+  pub tags : All HasTags file.teams
+  -- it forbids at most 64 pairs, each of two different teams
+  pub few_pairs : length file.pairs ≤ most_pairs
+  pub pairs : All (NamesTwoTeams file.teams) file.pairs
+
+-- What a pairing's file has besides: two pots, no groups, no limits and no fixed places.
+pub record HasPairingForm (file : DrawFile) : Type 0 where
+  pub pots : file.pots ≡ 2
+  pub groups : file.groups ≡ 0
+  pub limits : file.limits ≡ []
+  pub places : file.places ≡ []
+  -- pot 1, the winners, is not empty, and pot 2, the runners-up, is of its size
   pub not_empty : pot_size 1 file.teams ≢ 0
   pub same_size : pot_size 2 file.teams ≡ pot_size 1 file.teams
-  -- each team has its tags, and the letter of its group
-  pub tags : All HasTags file.teams
+  -- each team has the letter of its group
   pub letters : All HasLetter file.teams
-  -- it forbids at most 64 pairs, each of two different teams
-  pub few_pairs : length file.pairs ≤ 64
-  pub pairs : All (NamesTwoTeams file.teams) file.pairs
+
+-- The form of a draw file.
+pub record HasForm (file : DrawFile) : Type 0 where
+  pub common : HasCommonForm file
+  pub pairing : file.kind ≡ Kind.Pairing → HasPairingForm file
 
 -- Each well-formed draw file has this form.
 abbrev pub FilesHaveForm : Type 0

@@ -1,4 +1,5 @@
 pub mod Characters
+pub mod Kinds
 pub mod Teams
 pub mod Answers
 pub mod Members

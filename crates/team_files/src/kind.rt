@@ -1,7 +1,20 @@
-/// The kind of a draw.
+ghost use Rattle.std.specs.Prelude.{◌≡◌};
+ghost use Rattle.team_files.specs.Kinds.{kind_text};
+
+/// The kind of a draw: those that are built. A head of another kind that is known by name is refused
+/// with `KindNotBuilt`.
 #[derive(Clone, Copy, Debug, PartialEq, Eq)]
 pub enum Kind {
-    Group,
     Pairing,
-    League,
+}
+
+impl Kind {
+    /// The kind's name as it stands in a head. Takes no memory.
+    pub fn text(self) -> &'static str
+        ensures { result.now ≡ kind_text self }
+    {
+        match self {
+            Kind::Pairing => "pairing",
+        }
+    }
 }
