@@ -8,3 +8,4 @@ pub mod Renumbering
 pub mod Denials
 pub mod Walks
 pub mod FailingHints
+pub mod Decisions

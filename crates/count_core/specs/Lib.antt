@@ -5,4 +5,5 @@ pub mod Partials
 pub mod Steps
 pub mod FailingHints
 pub mod Laws
+pub mod Decisions
 pub mod Clash

@@ -1,4 +1,5 @@
 ghost use Rattle.count_core.specs.Laws.{AcceptedByConflict, AcceptedClausesFollow, RefutedQuestionsFail};
+ghost use Rattle.count_core.specs.Decisions.{SatisfiabilityDecides};
 ghost use Rattle.count_core.specs.Clash.{ClashTable};
 ghost use Rattle.count_core.specs.FirstFaults.{TellsFirstFault};
 ghost use Rattle.count_core.specs.FailingHints.{TellsFailingHint};
@@ -35,6 +36,12 @@ pub fn law_accepted_clauses_follow()
 /// nothing.
 pub fn law_refuted_questions_fail()
     ensures { RefutedQuestionsFail }
+{}
+
+/// Either some assignment satisfies the problem and the question, or none does, for any problem and
+/// any literals: the proof tries all values of the atoms that stand in them. Does nothing.
+pub fn law_satisfiability_decides()
+    ensures { SatisfiabilityDecides }
 {}
 
 /// The definitions on a small problem: which steps are accepted, and which hint fails. Does

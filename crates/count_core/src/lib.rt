@@ -32,7 +32,7 @@ pub use hint::Hint;
 pub use hints::Hints;
 pub use laws::{
     law_accepted_by_conflict, law_accepted_clauses_follow, law_clash_table, law_failing_hint,
-    law_first_fault, law_refuted_questions_fail,
+    law_first_fault, law_refuted_questions_fail, law_satisfiability_decides,
 };
 pub use lit::Lit;
 pub use lits::Lits;

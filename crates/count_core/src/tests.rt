@@ -1,7 +1,8 @@
 use crate::{
     Atom, CoreFault, CountRule, Hint, Hints, Lit, Lits, NoMemory, Problem, Question, SharedProblem,
     Step, Steps, Values, are_distinct, law_accepted_by_conflict, law_accepted_clauses_follow,
-    law_clash_table, law_failing_hint, law_first_fault, law_refuted_questions_fail, satisfied,
+    law_clash_table, law_failing_hint, law_first_fault, law_refuted_questions_fail,
+    law_satisfiability_decides, satisfied,
 };
 use std::alloc::Global;
 use std::test::Fail;
@@ -254,6 +255,7 @@ fn shared_problems_and_laws(rt: HostRuntime) {
     law_accepted_by_conflict();
     law_accepted_clauses_follow();
     law_refuted_questions_fail();
+    law_satisfiability_decides();
     law_clash_table();
     law_failing_hint();
     law_first_fault();
