@@ -1,23 +1,20 @@
 -- The lines that answer a command, and the opening.
-use Rattle.std.specs.Prelude.{ℕ, ◌<◌, List, [], ◌∷◌, ◌++◌, length, codes, Option, Some, None, slice_get}
+use Rattle.std.specs.Prelude.{ℕ, List, [], ◌∷◌, ◌++◌, length, codes}
 use Rattle.std.specs.Fmt.{decimal}
-use Rattle.team_files.specs.declared.team.Team.{Team}
+use Rattle.team_files.specs.Kinds.{kind_text}
 use Rattle.team_files.specs.declared.team_id.TeamId.{TeamId}
 use Rattle.rule_sets.specs.Files.{DrawFile}
 use Rattle.draw_tables.specs.declared.moves.Move.{Move}
 use Rattle.draw_tables.specs.declared.moves.Choice.{Choice}
 use Rattle.draw_tables.specs.declared.moves.Phase.{Phase}
+use Rattle.draw_tables.specs.TableTexts.{code_of}
 use Rattle.draw_state.specs.declared.replies.Refusal.{Refusal}
 use Rattle.draw_state.specs.declared.replies.NextLine.{NextLine}
 use Rattle.draw_state.specs.declared.replies.Reply.{Reply}
 
-abbrev pub code_in : Option Team → List ℕ
-code_in None = []
-code_in (Some team) = team.code
-
 -- a team's code
 abbrev pub code_text : DrawFile → TeamId → List ℕ
-code_text file id = code_in (slice_get file.teams id.0)
+code_text file id = code_of file.teams id
 
 abbrev pub choice_text : DrawFile → Choice → List ℕ
 choice_text file (Choice.Team id) = code_text file id
@@ -62,34 +59,5 @@ reply_text file (Reply.Taken moves next) = moves_text file moves ++ next_text fi
 
 -- The opening: the kind, the number of teams, and what comes next.
 abbrev pub opening_text : DrawFile → NextLine → List ℕ
-opening_text file next = codes "draw pairing " ++ decimal (length file.teams) ++ codes " teams\n" ++ next_text file next
-
--- ---- what a reply of the file names
-
-abbrev pub NamesTeam : DrawFile → TeamId → Type 0
-NamesTeam file id = id.0 < length file.teams
-
-abbrev pub NamesTeamsInMoves : DrawFile → List Move → Type 0
-NamesTeamsInMoves file [] = Unit {0}
-NamesTeamsInMoves file (Move.Drawn id ∷ ms) = NamesTeam file id × NamesTeamsInMoves file ms
-NamesTeamsInMoves file (Move.Paired r w ∷ ms) = (NamesTeam file r × NamesTeam file w) × NamesTeamsInMoves file ms
-
-abbrev pub NamesTeamsInChoices : DrawFile → List Choice → Type 0
-NamesTeamsInChoices file [] = Unit {0}
-NamesTeamsInChoices file (Choice.Team id ∷ cs) = NamesTeam file id × NamesTeamsInChoices file cs
-
-abbrev pub NamesTeamsInPhase : DrawFile → Phase → Type 0
-NamesTeamsInPhase file Phase.Runner = Unit {0}
-NamesTeamsInPhase file (Phase.Opponent id) = NamesTeam file id
-NamesTeamsInPhase file Phase.Complete = Unit {0}
-
--- each team of the next line is one of the file
-abbrev pub NamesTeamsInNext : DrawFile → NextLine → Type 0
-NamesTeamsInNext file (NextLine.Choices phase choices) = NamesTeamsInPhase file phase × NamesTeamsInChoices file choices
-NamesTeamsInNext file NextLine.Complete = Unit {0}
-NamesTeamsInNext file NextLine.Impossible = Unit {0}
-
--- each team of the reply is one of the file
-abbrev pub NamesTeams : DrawFile → Reply → Type 0
-NamesTeams file (Reply.Refused refusal) = Unit {0}
-NamesTeams file (Reply.Taken moves next) = NamesTeamsInMoves file moves × NamesTeamsInNext file next
+opening_text file next =
+    codes "draw " ++ kind_text file.kind ++ codes " " ++ decimal (length file.teams) ++ codes " teams\n" ++ next_text file next

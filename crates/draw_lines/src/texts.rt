@@ -1,5 +1,7 @@
 ghost use Rattle.std.specs.Prelude.{◌≡◌, ◌++◌, IfOk, OnOk, codes};
-ghost use Rattle.draw_lines.specs.Texts.{NamesTeam, NamesTeamsInMoves, NamesTeamsInChoices, NamesTeamsInPhase, NamesTeamsInNext, NamesTeams};
+ghost use Rattle.draw_tables.specs.Names.{AreChoicesOf, AreMovesOf, IsPhaseOf};
+ghost use Rattle.draw_tables.specs.Pots.{IsTeamOf};
+ghost use Rattle.draw_state.specs.Replies.{IsNextOf, IsReplyOf};
 ghost use Rattle.draw_lines.specs.Texts.{code_text, choices_text, phase_text, next_text, refusal_text, move_text, moves_text, reply_text, opening_text};
 
 use draw_state::{NextLine, Refusal, Reply};
@@ -10,7 +12,7 @@ use team_files::TeamId;
 
 /// The lines of a reply, each with its line feed.
 pub fn reply_text(alloc: Global, file: &DrawFile, reply: &Reply) -> Result<Vec<u8>, AllocError>
-    requires teams { NamesTeams file.now reply.now }
+    requires teams { IsReplyOf file.now reply.now }
     ensures { IfOk result (λ text. text.items ≡ reply_text file.now reply.now) }
 {
     match reply {
@@ -26,11 +28,12 @@ pub fn reply_text(alloc: Global, file: &DrawFile, reply: &Reply) -> Result<Vec<u
 
 /// The lines of the opening, each with its line feed.
 pub fn opening_text(alloc: Global, file: &DrawFile, next: &NextLine) -> Result<Vec<u8>, AllocError>
-    requires teams { NamesTeamsInNext file.now next.now }
+    requires teams { IsNextOf file.now next.now }
     ensures { IfOk result (λ text. text.items ≡ opening_text file.now next.now) }
 {
+    let kind = file.kind().text();
     let number = file.teams().number();
-    let first = format!(in alloc; "draw pairing {number} teams\n")?;
+    let first = format!(in alloc; "draw {kind} {number} teams\n")?;
     let mut text = first.into_bytes();
     add_next(&mut text, file, next)?;
     Ok(text)
@@ -51,7 +54,7 @@ fn refusal_text(refusal: Refusal) -> &'static str
 
 /// Writes the line of each move.
 fn add_moves(text: &mut Vec<u8>, file: &DrawFile, moves: &[Move]) -> Result<(), AllocError>
-    requires teams { NamesTeamsInMoves file.now moves.now }
+    requires teams { AreMovesOf file.now moves.now }
     ensures { OnOk result (text.new.items ≡ text.old.items ++ moves_text file.now moves.now) }
 {
     for added in moves {
@@ -64,7 +67,7 @@ fn add_moves(text: &mut Vec<u8>, file: &DrawFile, moves: &[Move]) -> Result<(), 
 }
 
 fn add_drawn(text: &mut Vec<u8>, file: &DrawFile, team: TeamId) -> Result<(), AllocError>
-    requires team { NamesTeam file.now team }
+    requires team { IsTeamOf file.now team }
     ensures { OnOk result (text.new.items ≡ text.old.items ++ codes "drawn " ++ code_text file.now team ++ codes "\n") }
 {
     text.extend_from_slice(b"drawn ")?;
@@ -79,8 +82,8 @@ fn add_paired(
     runner: TeamId,
     winner: TeamId,
 ) -> Result<(), AllocError>
-    requires runner { NamesTeam file.now runner }
-    requires winner { NamesTeam file.now winner }
+    requires runner { IsTeamOf file.now runner }
+    requires winner { IsTeamOf file.now winner }
     ensures { OnOk result (text.new.items ≡ text.old.items ++ codes "paired " ++ code_text file.now runner ++ codes " " ++ code_text file.now winner ++ codes "\n") }
 {
     text.extend_from_slice(b"paired ")?;
@@ -93,7 +96,7 @@ fn add_paired(
 
 /// Writes the line of what comes next.
 fn add_next(text: &mut Vec<u8>, file: &DrawFile, next: &NextLine) -> Result<(), AllocError>
-    requires teams { NamesTeamsInNext file.now next.now }
+    requires teams { IsNextOf file.now next.now }
     ensures { OnOk result (text.new.items ≡ text.old.items ++ next_text file.now next.now) }
 {
     match next {
@@ -109,7 +112,7 @@ fn add_next(text: &mut Vec<u8>, file: &DrawFile, next: &NextLine) -> Result<(), 
 }
 
 fn add_phase(text: &mut Vec<u8>, file: &DrawFile, phase: Phase) -> Result<(), AllocError>
-    requires teams { NamesTeamsInPhase file.now phase }
+    requires teams { IsPhaseOf file.now phase }
     ensures { OnOk result (text.new.items ≡ text.old.items ++ phase_text file.now phase) }
 {
     match phase {
@@ -126,7 +129,7 @@ fn add_phase(text: &mut Vec<u8>, file: &DrawFile, phase: Phase) -> Result<(), Al
 
 /// Writes each choice, with a space before it.
 fn add_choices(text: &mut Vec<u8>, file: &DrawFile, choices: &[Choice]) -> Result<(), AllocError>
-    requires teams { NamesTeamsInChoices file.now choices.now }
+    requires teams { AreChoicesOf file.now choices.now }
     ensures { OnOk result (text.new.items ≡ text.old.items ++ choices_text file.now choices.now) }
 {
     for choice in choices {
@@ -139,7 +142,7 @@ fn add_choices(text: &mut Vec<u8>, file: &DrawFile, choices: &[Choice]) -> Resul
 
 /// The code of a team.
 fn code_text(file: &DrawFile, team: TeamId) -> &str
-    requires { NamesTeam file.now team }
+    requires { IsTeamOf file.now team }
     ensures { result.now ≡ code_text file.now team }
 {
     file.teams().get(team).code.text()

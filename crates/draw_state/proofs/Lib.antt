@@ -1,1 +1,3 @@
-pub mod States
+pub mod Refusals
+pub mod Verdicts
+pub mod Steps

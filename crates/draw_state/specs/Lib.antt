@@ -1,3 +1,5 @@
 pub mod Commands
 pub mod Runs
+pub mod Replies
+pub mod Laws
 pub mod State

@@ -1,36 +1,44 @@
--- Runs: the replies to a list of commands.
-use Rattle.std.specs.Prelude.{◌≡◌, ℕ, ◌+◌, List, [], ◌∷◌}
+-- Steps and runs: the moves and the replies that commands lead to.
+use Rattle.std.specs.Prelude.{◌≡◌, ◌≢◌, ◌+◌, ◌<◌, ℕ, List, [], ◌∷◌, ◌++◌}
 use Rattle.rule_sets.specs.Files.{DrawFile}
 use Rattle.draw_tables.specs.declared.moves.Move.{Move}
 use Rattle.draw_tables.specs.declared.moves.Choice.{Choice}
-use Rattle.draw_tables.specs.States.{phase_of, candidates, IsState}
+use Rattle.draw_tables.specs.declared.moves.Phase.{Phase}
+use Rattle.draw_tables.specs.States.{phase_of}
 use Rattle.draw_tables.specs.Offers.{IsOffer}
 use Rattle.draw_state.specs.declared.commands.Command.{Command}
+use Rattle.draw_state.specs.declared.replies.NextLine.{NextLine}
 use Rattle.draw_state.specs.declared.replies.Reply.{Reply}
-use Rattle.draw_state.specs.Commands.{judged, moves_after, next_line, reply_of}
+use Rattle.draw_state.specs.Commands.{most_commands, IsRefused, IsAccepted, Adds}
 
--- One command: from moves with their offer, where so many commands were answered before, to the moves and the offer
--- after it, with its reply.
-pub record Step (file : DrawFile) (ms : List Move) (offered : List Choice) (answered : ℕ) (command : Command)
-    (new_ms : List Move) (new_offered : List Choice) (reply : Reply) : Type 0 where
-  pub moves : new_ms ≡ moves_after (phase_of file ms) ms
-      (judged file.teams (phase_of file ms) (candidates file ms) offered answered command)
-  pub offer : IsOffer file new_ms new_offered
-  pub told : reply ≡ reply_of (phase_of file ms)
-      (judged file.teams (phase_of file ms) (candidates file ms) offered answered command)
-      (next_line (phase_of file new_ms) new_offered)
+-- What comes next after the moves: nothing in the phase Complete; else the phase and the offer, or `impossible` where
+-- the offer is empty.
+abbrev pub IsNextLine : DrawFile → List Move → NextLine → Type 0
+IsNextLine file ms NextLine.Complete = phase_of file ms ≡ Phase.Complete
+IsNextLine file ms NextLine.Impossible = (phase_of file ms ≢ Phase.Complete) × IsOffer file ms []
+IsNextLine file ms (NextLine.Choices phase choices) =
+    (phase_of file ms ≡ phase) × (phase ≢ Phase.Complete) × (choices ≢ []) × IsOffer file ms choices
 
--- A run: the replies to the commands, one after another.
-abbrev pub IsRun : DrawFile → List Move → List Choice → ℕ → List Command → List Reply → Type 0
-IsRun file ms offered answered [] replies = replies ≡ []
-IsRun file ms offered answered (command ∷ commands) replies =
-    (new_ms : List Move) × (new_offered : List Choice) × (reply : Reply) × (rest : List Reply)
-    × Step file ms offered answered command new_ms new_offered reply
-    × IsRun file new_ms new_offered (answered + 1) commands rest
-    × (replies ≡ reply ∷ rest)
+-- One command after these moves, where so many were answered before: the moves after it, and its reply. A refused
+-- command changes nothing.
+abbrev pub Step : DrawFile → List Move → ℕ → Command → List Move → Reply → Type 0
+Step file ms answered command new_ms (Reply.Refused refusal) = IsRefused file ms answered command refusal × (new_ms ≡ ms)
+Step file ms answered command new_ms (Reply.Taken added next) =
+    (c : Choice) × IsAccepted file ms answered command c × Adds file ms c added × (new_ms ≡ ms ++ added) × IsNextLine file new_ms next
 
--- A command leads from a state to a state.
-abbrev pub StatesStay : Type 0
-StatesStay = (file : DrawFile) (ms : List Move) (offered : List Choice) (answered : ℕ) (command : Command)
-    (new_ms : List Move) (new_offered : List Choice) (reply : Reply)
-    → IsState file ms → Step file ms offered answered command new_ms new_offered reply → IsState file new_ms
+-- One command by itself: the step that it is wherever fewer commands were answered than are answered at most.
+abbrev pub StepBelowLimit : DrawFile → List Move → Command → List Move → Reply → Type 0
+StepBelowLimit file ms command new_ms reply = (answered : ℕ) → answered < most_commands → Step file ms answered command new_ms reply
+
+-- what a command led to
+pub record Answered : Type 0 where
+  pub moves : List Move
+  pub reply : Reply
+
+-- A run: for each command, one after another, the moves and the reply that it leads to.
+abbrev pub IsRun : DrawFile → List Move → ℕ → List Command → List Answered → Type 0
+IsRun file ms answered [] [] = Unit {0}
+IsRun file ms answered [] (x ∷ xs) = ⊥
+IsRun file ms answered (command ∷ commands) [] = ⊥
+IsRun file ms answered (command ∷ commands) (x ∷ xs) =
+    Step file ms answered command x.moves x.reply × IsRun file x.moves (answered + 1) commands xs

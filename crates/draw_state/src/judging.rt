@@ -1,34 +1,32 @@
-ghost use Rattle.std.specs.Prelude.{◌≡◌, IfOk, map};
-ghost use Rattle.std.specs.List.{list_any};
-ghost use Rattle.draw_tables.specs.declared.moves.Choice.{Choice as ChoiceValue};
+ghost use Rattle.std.specs.Prelude.{◌≡◌, ◌↔◌, IfOk, IfErr, IsOk, IsTrue};
+ghost use Rattle.draw_tables.specs.Offers.{IsOffer};
 ghost use Rattle.draw_tables.specs.Pots.{IsAmong};
-ghost use Rattle.draw_state.specs.Commands.{choice_of, has_choice, is_complete, judged, next_line};
-ghost use Rattle.draw_state.specs.Runs.{StatesStay};
+ghost use Rattle.draw_state.specs.declared.replies.Refusal.{Refusal as RefusalValue};
+ghost use Rattle.draw_state.specs.Commands.{choice_of, IsAccepted, IsRefused, Refuses};
+ghost use Rattle.draw_state.specs.Runs.{IsNextLine};
 
-use crate::NoMemory;
 use crate::commands::{Command, Word};
 use crate::lists::Choices;
 use crate::replies::{NextLine, Refusal};
-use draw_tables::{Choice, Phase};
-use std::alloc::Global;
-use team_files::{TeamId, Teams};
+use crate::state::State;
+use draw_tables::{Choice, Phase, is_candidate};
+use rule_sets::DrawFile;
 
 /// How many commands are answered; each later one is refused.
 pub const MOST_COMMANDS: u64 = 4096;
 
-/// The accepted choice, or the first refusal that holds. `candidates` are those of the phase,
-/// `offered` those of them that are possible, and so many commands were `answered` before.
-/// Takes no memory.
+/// The accepted choice, or the first refusal that holds, of a command in a state whose offer is
+/// `offered`, where so many commands were `answered` before. Takes no memory.
 pub fn judge_command(
-    teams: &Teams,
-    phase: Phase,
-    candidates: &[Choice],
+    state: &State,
     offered: &[Choice],
     answered: u64,
     command: Command,
 ) -> Result<Choice, Refusal>
-    ensures judged { result ≡ judged teams.now phase candidates.now offered.now answered command }
-    ensures candidate { IfOk result (λ c. IsAmong candidates.now c) }
+    requires { IsOffer state.now.file state.now.moves offered.now }
+    ensures accepted { IfOk result (λ c. IsAccepted state.now.file state.now.moves answered command c) }
+    ensures refused { IfErr result (λ r. IsRefused state.now.file state.now.moves answered command r) }
+    ensures exactly { IsOk result ↔ ((r : RefusalValue) → ¬ Refuses state.now.file state.now.moves answered command r) }
 {
     if answered >= MOST_COMMANDS {
         return Err(Refusal::Limit);
@@ -36,13 +34,13 @@ pub fn judge_command(
     let Command::Ball(word) = command else {
         return Err(Refusal::Form);
     };
-    let Some(choice) = choice_of(teams, word) else {
+    let Some(choice) = choice_of(state.file(), word) else {
         return Err(Refusal::Unknown);
     };
-    if phase == Phase::Complete {
+    if state.phase() == Phase::Complete {
         return Err(Refusal::Complete);
     }
-    if !has_choice(candidates, choice) {
+    if !is_candidate(state.file(), state.moves(), choice) {
         return Err(Refusal::Phase);
     }
     if !has_choice(offered, choice) {
@@ -51,19 +49,19 @@ pub fn judge_command(
     Ok(choice)
 }
 
-/// The choice that a ball's word names, where it names one. Takes no memory.
-fn choice_of(teams: &Teams, word: Word) -> Option<Choice>
-    ensures { result ≡ choice_of teams.now word }
+/// The choice that a ball's word names, where it names one.
+fn choice_of(file: &DrawFile, word: Word) -> Option<Choice>
+    ensures { result ≡ choice_of file.now word }
 {
     match word {
-        Word::Team(code) => teams.find(code).map(Choice::Team),
+        Word::Team(code) => file.teams().find(code).map(Choice::Team),
         Word::Number(_) => None,
     }
 }
 
 /// Whether the choice stands in the list.
 fn has_choice(choices: &[Choice], choice: Choice) -> bool
-    ensures { result ≡ has_choice choice choices.now }
+    ensures { IsTrue result ↔ IsAmong choices.now choice }
 {
     for other in choices {
         if choice == *other {
@@ -73,10 +71,12 @@ fn has_choice(choices: &[Choice], choice: Choice) -> bool
     false
 }
 
-/// What comes next in a phase with these possible choices. Takes no memory.
-pub fn next_line(phase: Phase, offered: Choices) -> NextLine
-    ensures { result ≡ next_line phase offered }
+/// What comes next in a state whose offer this is. Takes no memory.
+pub fn next_line(state: &State, offered: Choices) -> NextLine
+    requires { IsOffer state.now.file state.now.moves offered }
+    ensures { IsNextLine state.now.file state.now.moves result }
 {
+    let phase = state.phase();
     if phase == Phase::Complete {
         NextLine::Complete
     } else if offered.as_slice().is_empty() {
@@ -88,15 +88,3 @@ pub fn next_line(phase: Phase, offered: Choices) -> NextLine
         }
     }
 }
-
-/// The choices that name these teams, in order. The only error is want of memory.
-pub fn choices_of(alloc: Global, teams: &[TeamId]) -> Result<Vec<Choice>, NoMemory>
-    ensures { IfOk result (λ choices. choices.items ≡ map (λ t. ChoiceValue.Team t) teams.now) }
-{
-    teams.iter().map(|team| Choice::Team(*team)).collect(alloc)
-}
-
-/// A command leads from a state to a state.
-pub fn law_states_stay()
-    ensures { StatesStay }
-{}

@@ -4,12 +4,16 @@
 
 mod commands;
 mod judging;
+mod laws;
 mod lists;
 mod replies;
 mod state;
 
 pub use commands::{Command, Word};
-pub use judging::{choices_of, judge_command, law_states_stay, next_line};
+pub use judging::{judge_command, next_line};
+pub use laws::{
+    law_one_run, law_one_verdict, law_replies_name_teams, law_states_stay, law_steps_below_limit,
+};
 pub use lists::{Choices, Moves};
 pub use replies::{NextLine, Refusal, Reply};
 pub use state::{State, StateFault};

@@ -1,11 +1,11 @@
-ghost use Rattle.std.specs.Prelude.{◌≡◌, [], ◌∷◌, ◌++◌, IfOk, OnOk, OnErr, IfErr, IfSome, MatchOption, true, false, Some};
+ghost use Rattle.std.specs.Prelude.{◌≡◌, ◌↔◌, [], ◌∷◌, ◌++◌, IfOk, OnOk, OnErr, IfErr, IsTrue, MatchOption, Some};
 ghost use Rattle.draw_tables.specs.declared.moves.Choice.{Choice as ChoiceValue};
-ghost use Rattle.draw_tables.specs.Pots.{AreTeamsOf, IsAmong};
-ghost use Rattle.draw_tables.specs.States.{phase_of, candidates, candidate_teams, move_of, IsCandidateMove, IsState};
+ghost use Rattle.draw_tables.specs.Names.{AreChoicesOf};
+ghost use Rattle.draw_tables.specs.Pots.{IsAmong};
+ghost use Rattle.draw_tables.specs.States.{phase_of, candidates, move_in, IsMoveOf, IsCandidateMove, IsState};
 
 use crate::NoMemory;
-use crate::judging::choices_of;
-use draw_tables::{Choice, Move, Phase, candidate_teams, is_candidate, move_of, phase_of};
+use draw_tables::{Choice, Move, Phase, candidates, is_candidate, move_of, phase_of};
 use rule_sets::DrawFile;
 use std::alloc::Global;
 use std::marker::Model;
@@ -75,14 +75,12 @@ impl State {
         phase_of(&self.file, &self.moves)
     }
 
-    /// The choices that the phase lets come, in file order. The only error is want of memory.
+    /// The candidates of the phase, in file order. The only error is want of memory.
     pub fn candidates(&self, alloc: Global) -> Result<Vec<Choice>, NoMemory>
         ensures candidates { IfOk result (λ v. v.items ≡ candidates self.now.file self.now.moves) }
-        ensures teams { IfOk result (λ _. AreTeamsOf self.now.file (candidate_teams self.now.file self.now.moves)) }
+        ensures of_file { IfOk result (λ v. AreChoicesOf self.now.file v.items) }
     {
-        let teams = candidate_teams(alloc, &self.file, &self.moves)?;
-        let choices = choices_of(alloc, &teams)?;
-        Ok(choices)
+        candidates(alloc, &self.file, &self.moves)
     }
 
     /// The move that a choice adds. `None` exactly where the choice is no candidate of the phase.
@@ -90,12 +88,9 @@ impl State {
     pub fn move_of(&self, choice: Choice) -> Option<Move>
         ensures { MatchOption result
             (IsAmong (candidates self.now.file self.now.moves) choice → ⊥)
-            (λ m. IsAmong (candidates self.now.file self.now.moves) choice × (m ≡ move_of (phase_of self.now.file self.now.moves) choice)) }
+            (λ m. IsMoveOf self.now.file self.now.moves choice m) }
     {
-        if !is_candidate(&self.file, &self.moves, choice) {
-            return None;
-        }
-        Some(move_of(phase_of(&self.file, &self.moves), choice))
+        move_of(&self.file, &self.moves, choice)
     }
 
     /// Adds a move. `WrongPhase` comes exactly where it is no candidate's in the phase; after an
@@ -142,8 +137,7 @@ impl State {
 
 /// Whether the move is a candidate's in the phase after the moves.
 fn is_next(file: &DrawFile, moves: &[Move], next: Move) -> bool
-    ensures yes { result ≡ true → IsCandidateMove file.now moves.now next }
-    ensures no { result ≡ false → IsCandidateMove file.now moves.now next → ⊥ }
+    ensures { IsTrue result ↔ IsCandidateMove file.now moves.now next }
 {
     match choice_of_move(phase_of(file, moves), next) {
         Some(choice) => is_candidate(file, moves, choice),
@@ -151,18 +145,17 @@ fn is_next(file: &DrawFile, moves: &[Move], next: Move) -> bool
     }
 }
 
-/// The choice that adds the move in a phase.
+/// The choice whose move this is in a phase.
 fn choice_of_move(phase: Phase, next: Move) -> Option<Choice>
-    ensures some { IfSome result (λ c. next ≡ move_of phase c) }
-    ensures only { (c : ChoiceValue) → next ≡ move_of phase c → result ≡ Some c }
+    ensures { MatchOption result
+        ((c : ChoiceValue) → move_in phase c ≡ Some next → ⊥)
+        (λ choice. (c : ChoiceValue) → (move_in phase c ≡ Some next) ↔ (c ≡ choice)) }
 {
     match (phase, next) {
         (Phase::Runner, Move::Drawn(team)) => Some(Choice::Team(team)),
         (Phase::Opponent { runner }, Move::Paired(other, winner)) if other == runner => {
             Some(Choice::Team(winner))
         }
-        // `move_of` is total; in Complete no choice is a candidate, so that this one is never taken.
-        (Phase::Complete, Move::Drawn(team)) => Some(Choice::Team(team)),
         _ => None,
     }
 }

@@ -1,46 +1,34 @@
 -- The answer text is a function of the input.
-use Rattle.std.proofs.Common.{◌≡◌, ℕ, ◌+◌, List, [], ◌∷◌, ◌++◌, map, refl, sym, ◌∙◌, subst, Ok}
+use Rattle.std.proofs.Common.{◌≡◌, ℕ, List, [], ◌++◌, map, refl, sym, ap, ◌∙◌, subst, Ok}
+use Rattle.team_files.specs.declared.kind.Kind.{Kind}
 use Rattle.team_files.specs.Heads.{Head, head_of as read_head}
 use Rattle.rule_sets.specs.Files.{DrawFile, file_of, IsFileOf}
 use Rattle.draw_tables.specs.declared.moves.Move.{Move}
 use Rattle.draw_tables.specs.declared.moves.Choice.{Choice}
-use Rattle.draw_tables.specs.States.{phase_of, candidates}
-use Rattle.draw_tables.specs.Offers.{IsOffer, IsPossible}
-use Rattle.draw_state.specs.declared.commands.Command.{Command}
-use Rattle.draw_state.specs.declared.replies.Reply.{Reply}
-use Rattle.draw_state.specs.Commands.{judged, moves_after, next_line, reply_of}
-use Rattle.draw_state.specs.Runs.{IsRun}
+use Rattle.draw_tables.specs.States.{IsState}
+use Rattle.draw_tables.specs.Offers.{IsOffer}
+use Rattle.draw_state.proofs.Steps.{one_next, one_run, some_next, some_run}
 use Rattle.draw_lines.specs.Inputs.{command_lines}
 use Rattle.draw_lines.specs.Words.{command_of}
 use Rattle.draw_lines.specs.Texts.{opening_text}
 use Rattle.draw_lines.specs.Answers.{replies_text, IsAnswer}
-use Rattle.pairing_draw.proofs.Picking.{picks_once}
-use Rattle.pairing_draw.proofs.Decide.{offer}
+use Rattle.pairing_draw.proofs.Offers.{offer_exists}
 use Rattle.draw_top.proofs.Gains.{both, excluded}
 use Rattle.draw_top.specs.Laws.{OneAnswer, AnswerExists, AnswerOrRefusal}
 
-offers_once : (file : DrawFile) (ms ns : List Move) (os qs : List Choice) → ms ≡ ns → IsOffer file ms os → IsOffer file ns qs → os ≡ qs
-offers_once file ms ns os qs same h g = picks_once (IsPossible file ns) (candidates file ns) os qs (rw same at h) g
+-- ---- at most one
 
-runs_once : (file : DrawFile) (commands : List Command) (ms ns : List Move) (os qs : List Choice) (n : ℕ) (r s : List Reply) → ms ≡ ns → os ≡ qs → IsRun file ms os n commands r → IsRun file ns qs n commands s → r ≡ s
-runs_once file [] ms ns os qs n r s same alike h g = h ∙ sym g
-runs_once file (command ∷ commands) ms ns os qs n r s same alike h g =
-    let a = rw (same, alike) at h.4 in
-    let moves : h.0 ≡ g.0 = a.moves ∙ sym g.4.moves in
-    let offers : h.1 ≡ g.1 = offers_once file h.0 g.0 h.1 g.1 moves h.4.offer g.4.offer in
-    let b = rw (moves, offers) at a.told in
-    let reply : h.2 ≡ g.2 = b ∙ sym g.4.told in
-    let rest : h.3 ≡ g.3 = runs_once file commands h.0 g.0 h.1 g.1 (n + 1) h.3 g.3 moves offers h.5 g.5 in
-    h.6 ∙ (rw (reply, rest) (sym g.6))
+one_answer_of : (file : DrawFile) (lines : List (List ℕ)) (t u : List ℕ) → IsAnswer file lines t → IsAnswer file lines u → t ≡ u
+one_answer_of file lines t u h g =
+    let next : h.0 ≡ g.0 = one_next file [] h.0 g.0 h.2.opens g.2.opens in
+    let run : h.1 ≡ g.1 = one_run file [] 0 (map command_of lines) h.1 g.1 h.2.runs g.2.runs in
+    h.2.whole
+    ∙ ap (λ n. opening_text file n ++ replies_text file h.1) next
+    ∙ ap (λ xs. opening_text file g.0 ++ replies_text file xs) run
+    ∙ sym g.2.whole
 
-answers_once : (file : DrawFile) (lines : List (List ℕ)) (t u : List ℕ) → IsAnswer file lines t → IsAnswer file lines u → t ≡ u
-answers_once file lines t u h g =
-    let offers : h.0 ≡ g.0 = offers_once file [] [] h.0 g.0 refl h.2.offer g.2.offer in
-    let replies : h.1 ≡ g.1 = runs_once file (map command_of lines) [] [] h.0 g.0 0 h.1 g.1 refl offers h.2.run g.2.run in
-    h.2.whole ∙ (rw (offers, replies) (sym g.2.whole))
-
-pub files_once : (bytes : List ℕ) (f g : DrawFile) → IsFileOf bytes f → IsFileOf bytes g → f ≡ g
-files_once bytes f g h k =
+one_file : (bytes : List ℕ) (f g : DrawFile) → IsFileOf bytes f → IsFileOf bytes g → f ≡ g
+one_file bytes f g h k =
     let same : h.0 ≡ k.0 = both _ read_head h.1.0 k.1.0 h.0 k.0 h.1.1.value k.1.1.value h.1.2 k.1.2 in
     let P : Head → Type 0 = λ x. file_of x ≡ Ok f in
     let first : file_of k.0 ≡ Ok f = subst P same h.2 in
@@ -49,28 +37,28 @@ files_once bytes f g h k =
 
 pub one_answer : OneAnswer
 one_answer input t u h g =
-    let same : h.0 ≡ g.0 = files_once _ h.0 g.0 h.1 g.1 in
+    let same : h.0 ≡ g.0 = one_file _ h.0 g.0 h.1 g.1 in
     let P : DrawFile → Type 0 = λ file. IsAnswer file (command_lines input) t in
-    answers_once g.0 (command_lines input) t u (subst P same h.2) g.2
+    one_answer_of g.0 (command_lines input) t u (subst P same h.2) g.2
 
-run_of : (file : DrawFile) (commands : List Command) (ms : List Move) (os : List Choice) (n : ℕ) → (replies : List Reply) × IsRun file ms os n commands replies
-run_of file [] ms os n = ([], refl)
-run_of file (command ∷ commands) ms os n =
-    let verdict = judged file.teams (phase_of file ms) (candidates file ms) os n command in
-    let after = moves_after (phase_of file ms) ms verdict in
-    let next = offer file after in
-    let reply = reply_of (phase_of file ms) verdict (next_line (phase_of file after) next.0) in
-    let rest = run_of file commands after next.0 (n + 1) in
-    (reply ∷ rest.0, (after, next.0, reply, rest.0, record { moves = refl; offer = next.1; told = refl }, rest.1, refl))
+-- ---- at least one
+
+-- each state of a file has an offer, by the kind of the draw
+offers : (file : DrawFile) (ms : List Move) → IsState file ms → (offered : List Choice) × IsOffer file ms offered
+offers file ms state = by_kind file.kind refl
+  where
+    by_kind : (kind : Kind) → file.kind ≡ kind → (offered : List Choice) × IsOffer file ms offered
+    by_kind Kind.Pairing is = offer_exists file ms is state
 
 pub answer_exists : AnswerExists
 answer_exists input has =
     let file = has.0 in
-    let first = offer file [] in
-    let run = run_of file (map command_of (command_lines input)) [] first.0 0 in (
-      opening_text file (next_line (phase_of file []) first.0) ++ replies_text file run.0,
-      (file, has.1, (first.0, run.0, record { offer = first.1; run = run.1; whole = refl })),
-    )
+    let first = offers file [] tt in
+    let next = some_next file [] first.0 first.1 in
+    let run = some_run file (offers file) [] 0 (map command_of (command_lines input)) tt in
+    (opening_text file next.0 ++ replies_text file run.0, (file, has.1, (next.0, run.0, record { opens = next.1; runs = run.1; whole = refl })))
+
+-- ---- not both
 
 pub answer_or_refusal : AnswerOrRefusal
 answer_or_refusal input text line h g = excluded _ h.0 g.0 h.1 g.1

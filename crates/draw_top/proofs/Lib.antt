@@ -1,4 +1,3 @@
-pub mod Names
 pub mod Answering
 pub mod Gains
 pub mod Function

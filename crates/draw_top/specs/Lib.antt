@@ -1,5 +1,4 @@
 pub mod Turns
-pub mod Rights
 pub mod Faults
 pub mod Follow
 pub mod Outputs

@@ -1,21 +1,21 @@
-ghost use Rattle.std.specs.Prelude.{◌≡◌, [], ◌∷◌, ◌++◌, IfOk, OnErr};
-ghost use Rattle.draw_tables.specs.States.{phase_of, IsCandidateMove};
+ghost use Rattle.std.specs.Prelude.{◌≡◌, [], ◌∷◌, ◌++◌, IfOk, OnErr, Ok};
+ghost use Rattle.draw_tables.specs.States.{IsCandidateMove};
 ghost use Rattle.draw_tables.specs.Offers.{IsOffer};
-ghost use Rattle.draw_state.specs.Commands.{next_line};
-ghost use Rattle.draw_state.specs.Runs.{Step};
+ghost use Rattle.draw_state.specs.Runs.{IsNextLine, Step};
+ghost use Rattle.draw_state.specs.Replies.{IsNextOf, IsReplyOf};
+ghost use Rattle.draw_state.specs.declared.replies.Refusal.{Refusal as RefusalValue};
 ghost use Rattle.draw_state.specs.declared.replies.Reply.{Reply as ReplyValue};
-ghost use Rattle.draw_top.specs.Rights.{IsRightTurn};
-ghost use Rattle.draw_lines.specs.Texts.{NamesTeams, NamesTeamsInMoves, NamesTeamsInChoices, NamesTeamsInNext};
 
 use draw_state::{
-    Choices, Command, Moves, NextLine, Reply, State, StateFault, choices_of, judge_command,
-    next_line,
+    Choices, Command, Moves, NextLine, Reply, State, StateFault, judge_command,
+    law_replies_name_teams, next_line,
 };
-use draw_tables::{Choice, Move, move_of};
+use draw_tables::{Choice, Move};
 use pairing_draw::plain_offer;
 use rule_sets::DrawFile;
 use std::alloc::{AllocError, Global};
 use std::marker::Model;
+use team_files::Kind;
 
 /// A state of a draw and its offer, right by its type.
 #[derive(Drop)]
@@ -26,14 +26,13 @@ pub struct Turn {
 
 impl Model for Turn {
     ghost use Rattle.draw_top.specs.Turns as spec;
+    ghost use Rattle.draw_tables.specs.Offers.{IsOffer};
 
     ghost Value = { spec.Turn };
 
-    ghost view = { λ t. record { file = t.state.file; moves = t.state.moves; offered = t.offered.items } };
+    ghost view = { λ t. record { file = t.state.file; moves = t.state.moves } };
 
-    ghost use Rattle.draw_top.specs.Rights.{IsRightTurn};
-
-    ghost invariant = { λ t. IsRightTurn t.state.file t.state.moves t.offered.items };
+    ghost invariant = { λ t. IsOffer t.state.file t.state.moves t.offered.items };
 }
 
 impl Turn {
@@ -43,8 +42,7 @@ impl Turn {
         ensures moves { IfOk result (λ t. t.moves ≡ []) }
     {
         let state = State::start(alloc, file)?;
-        let possible = plain_offer(alloc, state.file(), state.moves())?;
-        let offered = choices_of(alloc, &possible)?;
+        let offered = offer_of(alloc, &state)?;
         Ok(Turn { state, offered })
     }
 
@@ -57,48 +55,43 @@ impl Turn {
 
     /// What comes next.
     pub fn next(&self, alloc: Global) -> Result<NextLine, AllocError>
-        ensures next { IfOk result (λ n. n ≡ next_line (phase_of self.now.file self.now.moves) self.now.offered) }
-        ensures teams { IfOk result (λ n. NamesTeamsInNext self.now.file n) }
-        ensures offer { IsOffer self.now.file self.now.moves self.now.offered }
+        ensures next { IfOk result (λ n. IsNextLine self.now.file self.now.moves n) }
+        ensures of_file { IfOk result (λ n. IsNextOf self.now.file n) }
     {
         let next = next_after(alloc, &self.state, &self.offered)?;
         Ok(next)
     }
 
-    /// Answers a command, where so many were `answered` before.
+    /// Answers a command, where so many were `answered` before. A refused command changes nothing.
     pub fn answer(
         &mut self,
         alloc: Global,
         answered: u64,
         command: Command,
     ) -> Result<Reply, AllocError>
-        ensures step { IfOk result (λ r. Step self.old.file self.old.moves self.old.offered answered command self.new.moves self.new.offered r) }
-        ensures teams { IfOk result (λ r. NamesTeams self.old.file r) }
+        ensures step { IfOk result (λ r. Step self.old.file self.old.moves answered command self.new.moves r) }
+        ensures of_file { IfOk result (λ r. IsReplyOf self.old.file r) }
+        ensures refused { (refusal : RefusalValue) → result ≡ Ok (ReplyValue.Refused refusal) → self.new ≡ self.old }
         ensures file { self.new.file ≡ self.old.file }
         ensures err { OnErr result (self.new ≡ self.old) }
     {
-        let phase = self.state.phase();
-        let candidates = self.state.candidates(alloc)?;
-        let choice = match judge_command(
-            self.state.file().teams(),
-            phase,
-            &candidates,
-            &self.offered,
-            answered,
-            command,
-        ) {
+        law_replies_name_teams();
+        let choice = match judge_command(&self.state, &self.offered, answered, command) {
             Ok(choice) => choice,
             Err(refusal) => return Ok(Reply::Refused(refusal)),
         };
-        let step = move_of(phase, choice);
+        let Some(added) = self.state.move_of(choice) else {
+            unreachable!()
+        };
         let Accepted {
             state,
             offered,
-            reply,
-        } = accept(alloc, &self.state, step)?;
+            next,
+        } = accept(alloc, &self.state, added)?;
+        let moves = Moves::new(Vec::from_slice(alloc, &[added])?);
         self.state = state;
         self.offered = offered;
-        Ok(reply)
+        Ok(Reply::Taken { moves, next })
     }
 }
 
@@ -107,57 +100,57 @@ impl Turn {
 struct Accepted {
     state: State,
     offered: Vec<Choice>,
-    reply: Reply,
+    next: NextLine,
 }
 
-/// What a ball leads to that adds a move to the state.
-fn accept(alloc: Global, before: &State, step: Move) -> Result<Accepted, AllocError>
-    requires candidate { IsCandidateMove before.now.file before.now.moves step }
-    requires drawn { NamesTeamsInMoves before.now.file before.now.moves }
-    requires step { NamesTeamsInMoves before.now.file (step ∷ []) }
+/// What a ball leads to that adds a candidate's move to the state.
+fn accept(alloc: Global, before: &State, added: Move) -> Result<Accepted, AllocError>
+    requires { IsCandidateMove before.now.file before.now.moves added }
     ensures file { IfOk result (λ a. a.state.file ≡ before.now.file) }
-    ensures moves { IfOk result (λ a. a.state.moves ≡ before.now.moves ++ step ∷ []) }
-    ensures right { IfOk result (λ a. IsRightTurn a.state.file a.state.moves a.offered.items) }
-    ensures reply { IfOk result (λ a. a.reply ≡ ReplyValue.Taken (step ∷ []) (next_line (phase_of a.state.file a.state.moves) a.offered.items)) }
-    ensures teams { IfOk result (λ a. NamesTeams before.now.file a.reply) }
+    ensures moves { IfOk result (λ a. a.state.moves ≡ before.now.moves ++ added ∷ []) }
+    ensures offer { IfOk result (λ a. IsOffer a.state.file a.state.moves a.offered.items) }
+    ensures next { IfOk result (λ a. IsNextLine a.state.file a.state.moves a.next) }
 {
-    let state = state_after(alloc, before, step)?;
-    let teams = plain_offer(alloc, state.file(), state.moves())?;
-    let offered = choices_of(alloc, &teams)?;
+    let state = state_after(alloc, before, added)?;
+    let offered = offer_of(alloc, &state)?;
     let next = next_after(alloc, &state, &offered)?;
-    let added = Vec::from_slice(alloc, &[step])?;
     Ok(Accepted {
         state,
         offered,
-        reply: Reply::Taken {
-            moves: Moves::new(added),
-            next,
-        },
+        next,
     })
 }
 
 /// The state with a candidate's move added.
-fn state_after(alloc: Global, before: &State, step: Move) -> Result<State, AllocError>
-    requires { IsCandidateMove before.now.file before.now.moves step }
+fn state_after(alloc: Global, before: &State, added: Move) -> Result<State, AllocError>
+    requires { IsCandidateMove before.now.file before.now.moves added }
     ensures file { IfOk result (λ s. s.file ≡ before.now.file) }
-    ensures moves { IfOk result (λ s. s.moves ≡ before.now.moves ++ step ∷ []) }
+    ensures moves { IfOk result (λ s. s.moves ≡ before.now.moves ++ added ∷ []) }
 {
     let mut state = before.clone_in(alloc)?;
-    match state.apply(alloc, step) {
+    match state.apply(alloc, added) {
         Ok(()) => Ok(state),
         Err(StateFault::NoMemory) => Err(AllocError),
         Err(StateFault::WrongPhase) => unreachable!(),
     }
 }
 
+/// The offer of a state, by the kind of its draw.
+fn offer_of(alloc: Global, state: &State) -> Result<Vec<Choice>, AllocError>
+    ensures { IfOk result (λ offered. IsOffer state.now.file state.now.moves offered.items) }
+{
+    let file = state.file();
+    match file.kind() {
+        Kind::Pairing => plain_offer(alloc, file, state.moves()),
+    }
+}
+
 /// What comes next in a state whose offer this is.
 fn next_after(alloc: Global, state: &State, offered: &[Choice]) -> Result<NextLine, AllocError>
-    requires drawn { NamesTeamsInMoves state.now.file state.now.moves }
-    requires named { NamesTeamsInChoices state.now.file offered.now }
-    ensures next { IfOk result (λ n. n ≡ next_line (phase_of state.now.file state.now.moves) offered.now) }
-    ensures teams { IfOk result (λ n. NamesTeamsInNext state.now.file n) }
+    requires { IsOffer state.now.file state.now.moves offered.now }
+    ensures { IfOk result (λ n. IsNextLine state.now.file state.now.moves n) }
 {
     let choices = Vec::from_slice(alloc, offered)?;
-    let next = next_line(state.phase(), Choices::new(choices));
+    let next = next_line(state, Choices::new(choices));
     Ok(next)
 }

@@ -1,18 +1,17 @@
 use Rattle.std.proofs.Common.{◌≡◌, ◌+◌, ◌≤◌, ◌++◌, List, length, map}
-use Rattle.draw_state.specs.declared.replies.Reply.{Reply}
-use Rattle.draw_state.specs.Runs.{IsRun}
+use Rattle.draw_state.specs.Runs.{Answered, IsRun}
 use Rattle.draw_lines.specs.Inputs.{lines_of}
 use Rattle.draw_lines.specs.Words.{command_of}
 use Rattle.draw_lines.specs.Answers.{replies_text, IsAnswer}
-use Rattle.draw_top.proofs.following.answer_text.Given as goal
+use Rattle.draw_top.proofs.answering.answer_text.Given as goal
 
 -- the replies to the lines that are left, put after what was written, make the answer text
 abbrev pub invariant-loop-line : goal.invariant-loop-line
 invariant-loop-line l = record {
   file : l.turn.file ≡ l.fn.file;
   count : l.answered + length l.left ≤ length l.commands;
-  so_far : (rest : List Reply)
-      → IsRun l.fn.file l.turn.moves l.turn.offered l.answered (map command_of (lines_of l.left)) rest
+  so_far : (rest : List Answered)
+      → IsRun l.fn.file l.turn.moves l.answered (map command_of (lines_of l.left)) rest
       → IsAnswer l.fn.file (lines_of l.commands) (l.text.items ++ replies_text l.fn.file rest);
 }
 

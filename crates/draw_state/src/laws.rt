@@ -1,0 +1,27 @@
+ghost use Rattle.draw_state.specs.Laws.{OneVerdict, StatesStay, StepsBelowLimit, RepliesNameTeams, OneRun};
+
+/// Of each command exactly one thing is true: it is accepted with one choice or refused for one
+/// cause, the first that holds. Does nothing.
+pub fn law_one_verdict()
+    ensures { OneVerdict }
+{}
+
+/// A command leads from a state to a state. Does nothing.
+pub fn law_states_stay()
+    ensures { StatesStay }
+{}
+
+/// Below the limit of commands a step is the same, however many were answered before. Does nothing.
+pub fn law_steps_below_limit()
+    ensures { StepsBelowLimit }
+{}
+
+/// The replies in a state, and what comes next in it, name teams of the file. Does nothing.
+pub fn law_replies_name_teams()
+    ensures { RepliesNameTeams }
+{}
+
+/// Commands have at most one run, and one where each state of the file has an offer. Does nothing.
+pub fn law_one_run()
+    ensures { OneRun }
+{}
