@@ -2,7 +2,7 @@
 use Rattle.std.proofs.Common.{◌≡◌, ℕ, suc, ◌+◌, ◌<◌, ◌==◌, Bool, true, false, if◌then◌else◌, List, [], ◌∷◌, ◌++◌, length, take, drop, get_or, refl, sym, ap, ◌∙◌, eq-eqb, arith}
 use Rattle.std.proofs.Math.Seq.{drop-cons, take-suc}
 use Rattle.std.proofs.lemmas.Bool.Decides.{nat_tests}
-use Rattle.draw_lines.specs.Inputs.{without_last, pieces, pieces_after, last_piece, joined, PiecesJoin}
+use Rattle.draw_lines.specs.Inputs.{without_last, pieces, pieces_after}
 
 put : (c : ℕ) (t : Bool) (xs ys : List ℕ) → c ∷ (if t then xs else ys) ≡ (if t then c ∷ xs else c ∷ ys)
 put c true xs ys = refl
@@ -36,24 +36,3 @@ cut_here xs front back i lt feed front_is back_is inv =
     let t2 = rw (feed, s) at t in
     let h = rw d2 at inv in
     rw (front_is, back_is, t2) (sym h)
-
--- joining the pieces gives the bytes
-put_behind : (xs : List ℕ) (b : ℕ) (ys : List ℕ) → (xs ++ b ∷ []) ++ ys ≡ xs ++ b ∷ ys
-put_behind [] b ys = refl
-put_behind (x ∷ xs) b ys = ap (λ zs. x ∷ zs) (put_behind xs b ys)
-
-joined_last : (line : List ℕ) → joined (last_piece line) ≡ line ++ []
-joined_last [] = refl
-joined_last (b ∷ bs) = refl
-
-joined_after : (line bytes : List ℕ) → joined (pieces_after line bytes) ≡ line ++ bytes
-joined_after line [] = joined_last line
-joined_after line (b ∷ bs) = go (b == 10) (joined_after [] bs) (joined_after (line ++ b ∷ []) bs)
-  where
-    go : (t : Bool) → joined (pieces_after [] bs) ≡ bs → joined (pieces_after (line ++ b ∷ []) bs) ≡ (line ++ b ∷ []) ++ bs
-        → joined (if t then (line ++ b ∷ []) ∷ pieces_after [] bs else pieces_after (line ++ b ∷ []) bs) ≡ line ++ b ∷ bs
-    go true here later = ap (λ xs. (line ++ b ∷ []) ++ xs) here ∙ put_behind line b bs
-    go false here later = later ∙ put_behind line b bs
-
-pub pieces_join : PiecesJoin
-pieces_join bytes = joined_after [] bytes

@@ -1,5 +1,5 @@
 -- Inputs: lines, the head and the command lines (this project's own form).
-use Rattle.std.specs.Prelude.{◌≡◌, ℕ, ◌==◌, bytes_eq, codes, Bool, if◌then◌else◌, List, [], ◌∷◌, ◌++◌, map}
+use Rattle.std.specs.Prelude.{◌≡◌, ◌≢◌, ℕ, ◌==◌, bytes_eq, codes, Bool, if◌then◌else◌, List, [], ◌∷◌, ◌++◌, map, All}
 
 -- the bytes that were read of a last line that has no line feed
 abbrev pub last_piece : List ℕ → List (List ℕ)
@@ -47,9 +47,25 @@ abbrev pub joined : List (List ℕ) → List ℕ
 joined [] = []
 joined (p ∷ ps) = p ++ joined ps
 
--- The pieces hold each byte once, in order.
-abbrev pub PiecesJoin : Type 0
-PiecesJoin = (bytes : List ℕ) → joined (pieces bytes) ≡ bytes
+-- a line feed stands in the piece only as its last byte
+abbrev pub HasFeedOnlyLast : List ℕ → Type 0
+HasFeedOnlyLast piece = (front back : List ℕ) → piece ≡ front ++ 10 ∷ back → back ≡ []
+
+-- the last byte of the piece is a line feed
+abbrev pub EndsWithFeed : List ℕ → Type 0
+EndsWithFeed piece = (front : List ℕ) × (piece ≡ front ++ 10 ∷ [])
+
+-- The bytes cut into lines: the pieces join to the bytes, none is empty, none has a line feed but as its last byte, and only the last may lack one.
+pub record AreLinesOf (bytes : List ℕ) (ps : List (List ℕ)) : Type 0 where
+  pub join : joined ps ≡ bytes
+  pub not_empty : All (λ p. p ≢ []) ps
+  pub inside : All HasFeedOnlyLast ps
+  pub ended : (before after : List (List ℕ)) (p next : List ℕ) → ps ≡ before ++ p ∷ next ∷ after → EndsWithFeed p
+
+-- The pieces are the bytes cut into lines, and no other list is.
+pub record PiecesAreLines : Type 0 where
+  pub cut : (bytes : List ℕ) → AreLinesOf bytes (pieces bytes)
+  pub only : (bytes : List ℕ) (ps : List (List ℕ)) → AreLinesOf bytes ps → ps ≡ pieces bytes
 
 -- The head is the bytes before the separator line.
 abbrev pub head_of : List ℕ → List ℕ

@@ -1,5 +1,5 @@
 ghost use Rattle.std.specs.Prelude.{◌≡◌, ◌<◌, ◌++◌, [], ◌∷◌, List, ℕ, length, MatchOption, IfSome};
-ghost use Rattle.draw_lines.specs.Inputs.{pieces, after_separator, is_separator, without_last, line_of, lines_of, head_of, command_lines, PiecesJoin};
+ghost use Rattle.draw_lines.specs.Inputs.{pieces, after_separator, is_separator, without_last, line_of, lines_of, head_of, command_lines, PiecesAreLines};
 
 /// The head of an input, and what follows the separator line, byte for byte. Takes no memory.
 pub fn split_input(bytes: &[u8]) -> (&[u8], &[u8])
@@ -73,7 +73,9 @@ fn without_last(bytes: &[u8], byte: u8) -> &[u8]
     }
 }
 
-/// The pieces of bytes, one a line with its end, hold each byte once, in order. Does nothing.
-pub fn law_pieces_join()
-    ensures { PiecesJoin }
+/// The pieces of bytes are the bytes cut into lines, and no other list is: they join to the bytes,
+/// none is empty, none has a line feed but as its last byte, and only the last may lack one. Does
+/// nothing.
+pub fn law_pieces_are_lines()
+    ensures { PiecesAreLines }
 {}
