@@ -7,9 +7,9 @@ use Rattle.draw_tables.specs.declared.moves.Phase.{Phase}
 use Rattle.draw_tables.specs.Names.{AreMovesOf, IsPhaseOf}
 use Rattle.draw_tables.specs.States.{phase_of, candidates, move_in, IsMoveOf, IsState}
 use Rattle.draw_tables.specs.Offers.{IsOffer, IsPossible}
-use Rattle.draw_tables.proofs.Moves.{one_more}
+use Rattle.draw_tables.proofs.StateMoves.{state_and_move}
 use Rattle.draw_tables.proofs.Named.{states_name_teams}
-use Rattle.draw_tables.proofs.Offered.{one_offer}
+use Rattle.draw_tables.proofs.Picked.{one_offer}
 use Rattle.draw_state.specs.declared.commands.Command.{Command}
 use Rattle.draw_state.specs.declared.replies.NextLine.{NextLine}
 use Rattle.draw_state.specs.declared.replies.Refusal.{Refusal}
@@ -28,7 +28,7 @@ pub added_stay : (file : DrawFile) (ms added : List Move) (c : Choice) → IsSta
 added_stay file ms added c state adds =
     let m = adds.0 in
     let whole : ms ++ added ≡ ms ++ m ∷ [] = ap (λ xs. ms ++ xs) adds.2 in
-    rw whole (one_more file [] ms m state (c, adds.1))
+    rw whole (state_and_move file ms m state (c, adds.1))
 
 pub states_stay : StatesStay
 states_stay file ms answered command new_ms (Reply.Refused refusal) state step = rw step.1 state

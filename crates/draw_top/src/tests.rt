@@ -3,7 +3,7 @@ ghost use Rattle.std.specs.Prelude.{◌<◌};
 use crate::laws::{law_answer_exists, law_answer_or_refusal, law_one_answer};
 use crate::run::run_draw;
 use crate::status::Status;
-use draw_lines::law_pieces_join;
+use draw_lines::law_pieces_are_lines;
 use draw_ports::{MemorySink, MemorySource, OpenGate};
 use draw_state::law_states_stay;
 use draw_tables::{law_legal_where_nothing_broken, law_one_first_broken, law_one_table_of_text};
@@ -461,7 +461,7 @@ fn the_laws_return(rt: HostRuntime) {
     law_first_bad_pair();
     law_first_fault_of_bytes();
     law_files_have_form();
-    law_pieces_join();
+    law_pieces_are_lines();
     law_one_answer();
     law_answer_exists();
     law_answer_or_refusal();
