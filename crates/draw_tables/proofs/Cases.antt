@@ -5,7 +5,7 @@ use Rattle.std.proofs.lemmas.Bool.{false≢true}
 use Rattle.team_files.specs.declared.team.Team.{Team}
 use Rattle.team_files.specs.declared.team_id.TeamId.{TeamId}
 use Rattle.rule_sets.specs.Files.{DrawFile}
-use Rattle.rule_sets.specs.Forms.{HasForm}
+use Rattle.rule_sets.specs.Forms.{HasPairingForm}
 use Rattle.draw_tables.specs.declared.pair_rule.PairRule.{PairRule}
 use Rattle.draw_tables.specs.declared.pair_rule.PairRule.TheVariants.{Letters, Tags, Forbidden}
 use Rattle.draw_tables.specs.Pots.{winners, runners_up, IsAmong}
@@ -160,7 +160,7 @@ module _ (file : DrawFile) (table : List TeamId) where
 abbrev pub KeepsRule : DrawFile → List TeamId → PairRule → Type 0
 KeepsRule file table rule = (r w : TeamId) → GivesOpponent file table r w → breaks file rule r w ≡ false
 
-pub legal_by : (file : DrawFile) (table : List TeamId) → HasForm file → length table ≡ length (runners_up file)
+pub legal_by : (file : DrawFile) (table : List TeamId) → HasPairingForm file → length table ≡ length (runners_up file)
     → ((w : TeamId) → IsAmong (winners file) w → times_given w table ≡ 1)
     → KeepsRule file table Letters → KeepsRule file table Tags → KeepsRule file table Forbidden
     → IsLegalPairing file table

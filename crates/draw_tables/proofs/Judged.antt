@@ -3,19 +3,18 @@ use Rattle.std.proofs.Common.{◌≡◌, ◌≢◌, ℕ, zero, suc, ◌^◌, ◌
 use Rattle.std.proofs.lemmas.Bool.{false_from_ne_true, false≢true}
 use Rattle.team_files.specs.declared.team_id.TeamId.{TeamId}
 use Rattle.rule_sets.specs.Files.{DrawFile}
-use Rattle.rule_sets.specs.Forms.{HasForm}
+use Rattle.rule_sets.specs.Forms.{HasForm, HasCommonForm}
 use Rattle.draw_tables.specs.declared.table.Table.{Table}
 use Rattle.draw_tables.specs.declared.table.Table.TheVariants.{Pairs}
 use Rattle.draw_tables.specs.declared.verdict.Verdict.{Verdict}
 use Rattle.draw_tables.specs.declared.verdict.Verdict.TheVariants.{Legal, Broken}
-use Rattle.draw_tables.specs.declared.pair_table.PairTable.{PairTable}
 use Rattle.draw_tables.specs.declared.pair_rule.PairRule.{PairRule}
 use Rattle.draw_tables.specs.declared.pair_rule.PairRule.TheVariants.{Letters, Tags, Forbidden}
 use Rattle.draw_tables.specs.Pots.{winners, runners_up}
 use Rattle.draw_tables.specs.Pairings.{GivesOpponent}
-use Rattle.draw_tables.specs.Passes.{breaks, first_not_once, first_pair}
-use Rattle.draw_tables.specs.Tables.{IsTableOf, IsLegal, opponents}
-use Rattle.draw_tables.specs.Verdicts.{times_given, team_at, IsNotGivenOnce, HaveOneLetter, HaveOneTag, IsBrokenPairing, IsFirstBroken, LegalWhereNoneBroken, NoneBrokenWhereLegal, OneFirstBroken}
+use Rattle.draw_tables.specs.Passes.{IsJudgement, breaks, first_not_once, first_pair}
+use Rattle.draw_tables.specs.Tables.{IsPairTableOf}
+use Rattle.draw_tables.specs.Verdicts.{times_given, team_at, IsNotGivenOnce, HaveOneLetter, HaveOneTag, IsBrokenPairing, IsNotAfter, IsFirstBroken, LegalWhereNoneBroken, NoneBrokenWhereLegal, OneFirstBroken}
 use Rattle.draw_tables.proofs.Counts.{same_item}
 use Rattle.draw_tables.proofs.InOrder.{pot_in_order, pot_at_most, once}
 use Rattle.draw_tables.proofs.Cases.{IsFirstNotOnce, IsFirstPair, all_once, found_not_once, no_pair, found_pair, letters_broken, tags_broken, letters_break, tags_break, KeepsRule, legal_by, legal_keeps}
@@ -23,7 +22,7 @@ use Rattle.draw_tables.proofs.Cases.{IsFirstNotOnce, IsFirstPair, all_once, foun
 -- ---- laws
 
 pub none_broken_where_legal : NoneBrokenWhereLegal
-none_broken_where_legal file (Pairs pairs) legal = legal_keeps file pairs.winners legal
+none_broken_where_legal file (Pairs pairs) legal = legal_keeps file pairs.winners legal.1
 
 one_unless : (n : ℕ) → (n ≢ 1 → ⊥) → n ≡ 1
 one_unless zero h = absurd (h (λ e. omega arith))
@@ -31,12 +30,14 @@ one_unless (suc zero) h = refl
 one_unless (suc (suc n)) h = absurd (h (λ e. omega arith))
 
 pub legal_where_none_broken : LegalWhereNoneBroken
-legal_where_none_broken file (Pairs pairs) formed of_file none =
-    legal_by file pairs.winners formed of_file.size
-    (λ w among. one_unless (times_given w pairs.winners) (λ n. none 1 w.0 (times_given w pairs.winners) (inl (refl, record { winner = among; times = refl; not_once = n }))))
-    (λ r w gives. false_from_ne_true (breaks file Letters r w) (λ e. none 2 r.0 w.0 (inr (inl (refl, letters_broken file pairs.winners r w gives e)))))
-    (λ r w gives. false_from_ne_true (breaks file Tags r w) (λ e. none 3 r.0 w.0 (inr (inr (inl (refl, tags_broken file pairs.winners r w gives e))))))
-    (λ r w gives. false_from_ne_true (breaks file Forbidden r w) (λ e. none 4 r.0 w.0 (inr (inr (inr (refl, record { pair = gives; forbidden = e }))))))
+legal_where_none_broken file (Pairs pairs) formed of_file none = (
+  of_file.kind,
+  legal_by file pairs.winners (formed.pairing of_file.kind) of_file.size
+      (λ w among. one_unless (times_given w pairs.winners) (λ n. none 1 w.0 (times_given w pairs.winners) (inl (refl, record { winner = among; times = refl; not_once = n }))))
+      (λ r w gives. false_from_ne_true (breaks file Letters r w) (λ e. none 2 r.0 w.0 (inr (inl (refl, letters_broken file pairs.winners r w gives e)))))
+      (λ r w gives. false_from_ne_true (breaks file Tags r w) (λ e. none 3 r.0 w.0 (inr (inr (inl (refl, tags_broken file pairs.winners r w gives e))))))
+      (λ r w gives. false_from_ne_true (breaks file Forbidden r w) (λ e. none 4 r.0 w.0 (inr (inr (inr (refl, record { pair = gives; forbidden = e })))))),
+)
 
 -- the second number follows from the rule and the first
 module _ (file : DrawFile) (table : List TeamId) (rule first : ℕ) where
@@ -70,17 +71,50 @@ module _ (file : DrawFile) (table : List TeamId) (rule first : ℕ) where
       go (inl one) = by_count a g one ∙ sym (by_count b h one)
       go (inr more) = one_opponent a b (by_pair a g more) (by_pair b h more)
 
-same_case : (rule first r f : ℕ) → (rule < r) ⊎ ((rule ≡ r) × (first ≤ f)) → (r < rule) ⊎ ((r ≡ rule) × (f ≤ first)) → (rule ≡ r) × (first ≡ f)
-same_case rule first r f (inl a) (inl b) = absurd (omega arith)
-same_case rule first r f (inl a) (inr b) = let e = b.0 in absurd (omega arith)
-same_case rule first r f (inr a) (inl b) = let e = a.0 in absurd (omega arith)
-same_case rule first r f (inr a) (inr b) = let x = a.1 in let y = b.1 in (a.0, omega arith)
+-- of two cases that are not after each other, all three numbers are the same
+same_case : (rule first second r f s : ℕ) → IsNotAfter rule first second r f s → IsNotAfter r f s rule first second → (rule ≡ r) × (first ≡ f) × (second ≡ s)
+same_case rule first second r f s (inl a) (inl b) = absurd (omega arith)
+same_case rule first second r f s (inl a) (inr (e, b)) = absurd (omega arith)
+same_case rule first second r f s (inr (d, a)) (inl b) = absurd (omega arith)
+same_case rule first second r f s (inr (d, inl a)) (inr (e, inl b)) = absurd (omega arith)
+same_case rule first second r f s (inr (d, inl a)) (inr (e, inr (g, b))) = absurd (omega arith)
+same_case rule first second r f s (inr (d, inr (h, a))) (inr (e, inl b)) = absurd (omega arith)
+same_case rule first second r f s (inr (d, inr (h, a))) (inr (e, inr (g, b))) = (d, h, omega arith)
 
 pub one_first_broken : OneFirstBroken
-one_first_broken file (Pairs pairs) rule first second r f s a b =
-    let same = same_case rule first r f (a.others r f s b.broken) (b.others rule first second a.broken) in
-    let other : IsBrokenPairing file pairs.winners rule first s = rw (same.0, same.1) b.broken in
-    (same.0, same.1, one_second file pairs.winners rule first second s a.broken other)
+one_first_broken file table rule first second r f s a b = same_case rule first second r f s (a.least r f s b.broken) (b.least rule first second a.broken)
+
+-- ---- the first case of a pairing
+
+-- the table that gives these winners
+abbrev pub pairs_of : List TeamId → Table
+pairs_of ws = Pairs (record { winners = ws })
+
+less_or_same : (a b : ℕ) → a ≤ b → (a < b) ⊎ (a ≡ b)
+less_or_same zero zero le = inr refl
+less_or_same zero (suc b) le = inl (omega arith)
+less_or_same (suc a) zero le = absurd (omega arith)
+less_or_same (suc a) (suc b) le = up (less_or_same a b (omega arith))
+  where
+    up : (a < b) ⊎ (a ≡ b) → (suc a < suc b) ⊎ (suc a ≡ suc b)
+    up (inl lt) = inl (omega arith)
+    up (inr e) = inr (omega arith)
+
+-- a case that is the least by the rule and the first number is the first, since its second number follows
+first_case : (file : DrawFile) (table : List TeamId) (rule first second : ℕ) → IsBrokenPairing file table rule first second
+    → ((r f s : ℕ) → IsBrokenPairing file table r f s → (rule < r) ⊎ ((rule ≡ r) × (first ≤ f))) → IsFirstBroken file (pairs_of table) rule first second
+first_case file table rule first second broken least = record { broken = broken; least = λ r f s h. by_rule r f s h (least r f s h) }
+  where
+    by_first : (r f s : ℕ) → IsBrokenPairing file table r f s → rule ≡ r → (first < f) ⊎ (first ≡ f) → (first < f) ⊎ ((first ≡ f) × (second ≤ s))
+    by_first r f s h e (inl lt) = inl lt
+    by_first r f s h e (inr is) =
+        let here : IsBrokenPairing file table rule first s = rw (e, is) h in
+        let same = one_second file table rule first second s broken here in
+        inr (is, omega arith)
+
+    by_rule : (r f s : ℕ) → IsBrokenPairing file table r f s → (rule < r) ⊎ ((rule ≡ r) × (first ≤ f)) → IsNotAfter rule first second r f s
+    by_rule r f s h (inl lt) = inl lt
+    by_rule r f s h (inr same) = inr (same.0, by_first r f s h same.0 (less_or_same first f same.1))
 
 -- ---- what the passes find
 
@@ -106,73 +140,65 @@ module _ (file : DrawFile) (table : List TeamId) where
 abbrev FoundPair : DrawFile → List TeamId → PairRule → TeamId → TeamId → Type 0
 FoundPair file table rule r w = first_pair (breaks file rule) (runners_up file) table ≡ Some (r, w)
 
-module _ (file : DrawFile) (pairs : PairTable) where
-  pub first_of_rule_1 : (w : TeamId) (n : ℕ) → first_not_once pairs.winners (winners file) ≡ Some (w, n) → IsFirstBroken file (Pairs pairs) 1 w.0 n
+module _ (file : DrawFile) (table : List TeamId) where
+  first_of_rule_1 : (w : TeamId) (n : ℕ) → first_not_once table (winners file) ≡ Some (w, n) → IsFirstBroken file (pairs_of table) 1 w.0 n
   first_of_rule_1 w n e =
-      let found = found_not_once pairs.winners (winners file) w n (pot_in_order 1 file) e in
-      record { broken = inl (refl, record { winner = found.among; times = found.times; not_once = found.not_once }); others = others found }
+      let found = found_not_once table (winners file) w n (pot_in_order 1 file) e in
+      first_case file table 1 w.0 n (inl (refl, record { winner = found.among; times = found.times; not_once = found.not_once })) (least found)
     where
-      others : IsFirstNotOnce pairs.winners (winners file) w n → (r f s : ℕ) → IsBrokenPairing file pairs.winners r f s → (1 < r) ⊎ ((1 ≡ r) × (w.0 ≤ f))
-      others found r f s (inl (is, h)) = inr (sym is, found.least (team_at f) h.winner (λ one. h.not_once (h.times ∙ one)))
-      others found r f s (inr (inl (is, h))) = inl (omega arith)
-      others found r f s (inr (inr (inl (is, h)))) = inl (omega arith)
-      others found r f s (inr (inr (inr (is, h)))) = inl (omega arith)
+      least : IsFirstNotOnce table (winners file) w n → (r f s : ℕ) → IsBrokenPairing file table r f s → (1 < r) ⊎ ((1 ≡ r) × (w.0 ≤ f))
+      least found r f s (inl (is, h)) = inr (sym is, found.least (team_at f) h.winner (λ one. h.not_once (h.times ∙ one)))
+      least found r f s (inr (inl (is, h))) = inl (omega arith)
+      least found r f s (inr (inr (inl (is, h)))) = inl (omega arith)
+      least found r f s (inr (inr (inr (is, h)))) = inl (omega arith)
 
-  pub first_of_rule_2 : (q w : TeamId) → NoneNotOnce file pairs.winners → FoundPair file pairs.winners Letters q w → IsFirstBroken file (Pairs pairs) 2 q.0 w.0
+  first_of_rule_2 : (q w : TeamId) → NoneNotOnce file table → FoundPair file table Letters q w → IsFirstBroken file (pairs_of table) 2 q.0 w.0
   first_of_rule_2 q w none e =
-      let found = found_pair (breaks file Letters) (runners_up file) pairs.winners q w (pot_in_order 2 file) e in
-      record { broken = inr (inl (refl, letters_broken file pairs.winners q w (found.at, found.runner, found.winner) found.holds)); others = others found }
+      let found = found_pair (breaks file Letters) (runners_up file) table q w (pot_in_order 2 file) e in
+      first_case file table 2 q.0 w.0 (inr (inl (refl, letters_broken file table q w (found.at, found.runner, found.winner) found.holds))) (least found)
     where
-      others : IsFirstPair (breaks file Letters) (runners_up file) pairs.winners q w → (r f s : ℕ) → IsBrokenPairing file pairs.winners r f s → (2 < r) ⊎ ((2 ≡ r) × (q.0 ≤ f))
-      others found r f s (inl (is, h)) = absurd (not_rule_1 file pairs.winners none f s h)
-      others found r f s (inr (inl (is, h))) = inr (sym is, found.least h.pair.0 (team_at f) (team_at s) h.pair.1 h.pair.2 (letters_break file pairs.winners f s h))
-      others found r f s (inr (inr (inl (is, h)))) = inl (omega arith)
-      others found r f s (inr (inr (inr (is, h)))) = inl (omega arith)
+      least : IsFirstPair (breaks file Letters) (runners_up file) table q w → (r f s : ℕ) → IsBrokenPairing file table r f s → (2 < r) ⊎ ((2 ≡ r) × (q.0 ≤ f))
+      least found r f s (inl (is, h)) = absurd (not_rule_1 file table none f s h)
+      least found r f s (inr (inl (is, h))) = inr (sym is, found.least h.pair.0 (team_at f) (team_at s) h.pair.1 h.pair.2 (letters_break file table f s h))
+      least found r f s (inr (inr (inl (is, h)))) = inl (omega arith)
+      least found r f s (inr (inr (inr (is, h)))) = inl (omega arith)
 
-  pub first_of_rule_3 : (q w : TeamId) → NoneNotOnce file pairs.winners → NonePairs file pairs.winners Letters → FoundPair file pairs.winners Tags q w → IsFirstBroken file (Pairs pairs) 3 q.0 w.0
+  first_of_rule_3 : (q w : TeamId) → NoneNotOnce file table → NonePairs file table Letters → FoundPair file table Tags q w → IsFirstBroken file (pairs_of table) 3 q.0 w.0
   first_of_rule_3 q w none letters e =
-      let found = found_pair (breaks file Tags) (runners_up file) pairs.winners q w (pot_in_order 2 file) e in
-      record { broken = inr (inr (inl (refl, tags_broken file pairs.winners q w (found.at, found.runner, found.winner) found.holds))); others = others found }
+      let found = found_pair (breaks file Tags) (runners_up file) table q w (pot_in_order 2 file) e in
+      first_case file table 3 q.0 w.0 (inr (inr (inl (refl, tags_broken file table q w (found.at, found.runner, found.winner) found.holds)))) (least found)
     where
-      others : IsFirstPair (breaks file Tags) (runners_up file) pairs.winners q w → (r f s : ℕ) → IsBrokenPairing file pairs.winners r f s → (3 < r) ⊎ ((3 ≡ r) × (q.0 ≤ f))
-      others found r f s (inl (is, h)) = absurd (not_rule_1 file pairs.winners none f s h)
-      others found r f s (inr (inl (is, h))) = absurd (not_rule_2 file pairs.winners letters f s h)
-      others found r f s (inr (inr (inl (is, h)))) = inr (sym is, found.least h.pair.0 (team_at f) (team_at s) h.pair.1 h.pair.2 (tags_break file pairs.winners f s h))
-      others found r f s (inr (inr (inr (is, h)))) = inl (omega arith)
+      least : IsFirstPair (breaks file Tags) (runners_up file) table q w → (r f s : ℕ) → IsBrokenPairing file table r f s → (3 < r) ⊎ ((3 ≡ r) × (q.0 ≤ f))
+      least found r f s (inl (is, h)) = absurd (not_rule_1 file table none f s h)
+      least found r f s (inr (inl (is, h))) = absurd (not_rule_2 file table letters f s h)
+      least found r f s (inr (inr (inl (is, h)))) = inr (sym is, found.least h.pair.0 (team_at f) (team_at s) h.pair.1 h.pair.2 (tags_break file table f s h))
+      least found r f s (inr (inr (inr (is, h)))) = inl (omega arith)
 
-  pub first_of_rule_4 : (q w : TeamId) → NoneNotOnce file pairs.winners → NonePairs file pairs.winners Letters → NonePairs file pairs.winners Tags → FoundPair file pairs.winners Forbidden q w
-      → IsFirstBroken file (Pairs pairs) 4 q.0 w.0
+  first_of_rule_4 : (q w : TeamId) → NoneNotOnce file table → NonePairs file table Letters → NonePairs file table Tags → FoundPair file table Forbidden q w
+      → IsFirstBroken file (pairs_of table) 4 q.0 w.0
   first_of_rule_4 q w none letters tags e =
-      let found = found_pair (breaks file Forbidden) (runners_up file) pairs.winners q w (pot_in_order 2 file) e in
-      record { broken = inr (inr (inr (refl, record { pair = (found.at, found.runner, found.winner); forbidden = found.holds }))); others = others found }
+      let found = found_pair (breaks file Forbidden) (runners_up file) table q w (pot_in_order 2 file) e in
+      first_case file table 4 q.0 w.0 (inr (inr (inr (refl, record { pair = (found.at, found.runner, found.winner); forbidden = found.holds })))) (least found)
     where
-      others : IsFirstPair (breaks file Forbidden) (runners_up file) pairs.winners q w → (r f s : ℕ) → IsBrokenPairing file pairs.winners r f s → (4 < r) ⊎ ((4 ≡ r) × (q.0 ≤ f))
-      others found r f s (inl (is, h)) = absurd (not_rule_1 file pairs.winners none f s h)
-      others found r f s (inr (inl (is, h))) = absurd (not_rule_2 file pairs.winners letters f s h)
-      others found r f s (inr (inr (inl (is, h)))) = absurd (not_rule_3 file pairs.winners tags f s h)
-      others found r f s (inr (inr (inr (is, h)))) = inr (sym is, found.least h.pair.0 (team_at f) (team_at s) h.pair.1 h.pair.2 h.forbidden)
-
-  pub legal_by_passes : HasForm file → IsTableOf file (Pairs pairs) → NoneNotOnce file pairs.winners
-      → NonePairs file pairs.winners Letters → NonePairs file pairs.winners Tags → NonePairs file pairs.winners Forbidden → IsLegal file (Pairs pairs)
-  legal_by_passes formed of_file none letters tags forbidden =
-      legal_by file pairs.winners formed of_file.size (all_once pairs.winners (winners file) none) (keeps file pairs.winners Letters letters) (keeps file pairs.winners Tags tags) (keeps file pairs.winners Forbidden forbidden)
+      least : IsFirstPair (breaks file Forbidden) (runners_up file) table q w → (r f s : ℕ) → IsBrokenPairing file table r f s → (4 < r) ⊎ ((4 ≡ r) × (q.0 ≤ f))
+      least found r f s (inl (is, h)) = absurd (not_rule_1 file table none f s h)
+      least found r f s (inr (inl (is, h))) = absurd (not_rule_2 file table letters f s h)
+      least found r f s (inr (inr (inl (is, h)))) = absurd (not_rule_3 file table tags f s h)
+      least found r f s (inr (inr (inr (is, h)))) = inr (sym is, found.least h.pair.0 (team_at f) (team_at s) h.pair.1 h.pair.2 h.forbidden)
 
 -- ---- the verdict
 
-pub few : (file : DrawFile) (table : Table) (given : List TeamId) → HasForm file → IsTableOf file table → given ≡ opponents table → length given < 2 ^ 32
-few file table given formed of_file is =
-    let size : length given ≡ length (runners_up file) = rw is of_file.size in
+pub few : (file : DrawFile) (table : List TeamId) → HasCommonForm file → IsPairTableOf file table → length table < 2 ^ 32
+few file table formed of_file =
+    let size = of_file.size in
     let most = pot_at_most 2 file in
     let limit = formed.few_teams in
     omega arith
 
--- the judgement of a broken table, and of a legal one
-pub record IsRight (file : DrawFile) (table : Table) (verdict : Verdict) : Type 0 where
-  pub only_legal : IsLegal file table → verdict ≡ Legal
-  pub broken : (rule first second : ℕ) → verdict ≡ Broken rule first second → IsFirstBroken file table rule first second
-
-right_where_broken : (file : DrawFile) (table : Table) (rule first second : ℕ) (verdict : Verdict) → verdict ≡ Broken rule first second → IsFirstBroken file table rule first second → IsRight file table verdict
-right_where_broken file table rule first second verdict is h = record {
+-- the verdict on a table of which a first broken case was found
+judgement_of : (file : DrawFile) (table : Table) (rule first second : ℕ) (verdict : Verdict) → verdict ≡ Broken rule first second → IsFirstBroken file table rule first second → IsJudgement file table verdict
+judgement_of file table rule first second verdict is h = record {
+  legal = λ e. let clash = sym is ∙ e in cc;
   only_legal = λ legal. absurd (none_broken_where_legal file table legal rule first second h.broken);
   broken = λ r f s e.
       let same = sym is ∙ e in
@@ -182,25 +208,27 @@ right_where_broken file table rule first second verdict is h = record {
       rw (← one, ← two, ← three) h;
 }
 
-pub right_1 : (file : DrawFile) (table : Table) (given : List TeamId) (found : TeamId × ℕ) (verdict : Verdict) → given ≡ opponents table
-    → first_not_once given (winners file) ≡ Some found → verdict ≡ Broken 1 found.0.0 found.1 → IsRight file table verdict
-right_1 file (Pairs pairs) given (w, n) verdict is e v = right_where_broken file (Pairs pairs) 1 w.0 n verdict v (first_of_rule_1 file pairs w n (rw is at e))
+module _ (file : DrawFile) (table : List TeamId) where
+  pub judged_1 : (found : TeamId × ℕ) (verdict : Verdict)
+      → first_not_once table (winners file) ≡ Some found → verdict ≡ Broken 1 found.0.0 found.1 → IsJudgement file (pairs_of table) verdict
+  judged_1 (w, n) verdict e v = judgement_of file (pairs_of table) 1 w.0 n verdict v (first_of_rule_1 file table w n e)
 
-pub right_2 : (file : DrawFile) (table : Table) (given : List TeamId) (pair : TeamId × TeamId) (verdict : Verdict) → given ≡ opponents table → NoneNotOnce file given
-    → first_pair (breaks file Letters) (runners_up file) given ≡ Some pair → verdict ≡ Broken 2 pair.0.0 pair.1.0 → IsRight file table verdict
-right_2 file (Pairs pairs) given (q, w) verdict is none e v = right_where_broken file (Pairs pairs) 2 q.0 w.0 verdict v (first_of_rule_2 file pairs q w (rw is at none) (rw is at e))
+  module _ (pair : TeamId × TeamId) (verdict : Verdict) (none : NoneNotOnce file table) where
+    pub judged_2 : first_pair (breaks file Letters) (runners_up file) table ≡ Some pair → verdict ≡ Broken 2 pair.0.0 pair.1.0 → IsJudgement file (pairs_of table) verdict
+    judged_2 e v = judgement_of file (pairs_of table) 2 pair.0.0 pair.1.0 verdict v (first_of_rule_2 file table pair.0 pair.1 none e)
 
-pub right_3 : (file : DrawFile) (table : Table) (given : List TeamId) (pair : TeamId × TeamId) (verdict : Verdict) → given ≡ opponents table → NoneNotOnce file given → NonePairs file given Letters
-    → first_pair (breaks file Tags) (runners_up file) given ≡ Some pair → verdict ≡ Broken 3 pair.0.0 pair.1.0 → IsRight file table verdict
-right_3 file (Pairs pairs) given (q, w) verdict is none letters e v =
-    right_where_broken file (Pairs pairs) 3 q.0 w.0 verdict v (first_of_rule_3 file pairs q w (rw is at none) (rw is at letters) (rw is at e))
+    pub judged_3 : NonePairs file table Letters
+        → first_pair (breaks file Tags) (runners_up file) table ≡ Some pair → verdict ≡ Broken 3 pair.0.0 pair.1.0 → IsJudgement file (pairs_of table) verdict
+    judged_3 letters e v = judgement_of file (pairs_of table) 3 pair.0.0 pair.1.0 verdict v (first_of_rule_3 file table pair.0 pair.1 none letters e)
 
-pub right_4 : (file : DrawFile) (table : Table) (given : List TeamId) (pair : TeamId × TeamId) (verdict : Verdict) → given ≡ opponents table → NoneNotOnce file given → NonePairs file given Letters → NonePairs file given Tags
-    → first_pair (breaks file Forbidden) (runners_up file) given ≡ Some pair → verdict ≡ Broken 4 pair.0.0 pair.1.0 → IsRight file table verdict
-right_4 file (Pairs pairs) given (q, w) verdict is none letters tags e v =
-    right_where_broken file (Pairs pairs) 4 q.0 w.0 verdict v (first_of_rule_4 file pairs q w (rw is at none) (rw is at letters) (rw is at tags) (rw is at e))
+    pub judged_4 : NonePairs file table Letters → NonePairs file table Tags
+        → first_pair (breaks file Forbidden) (runners_up file) table ≡ Some pair → verdict ≡ Broken 4 pair.0.0 pair.1.0 → IsJudgement file (pairs_of table) verdict
+    judged_4 letters tags e v = judgement_of file (pairs_of table) 4 pair.0.0 pair.1.0 verdict v (first_of_rule_4 file table pair.0 pair.1 none letters tags e)
 
-pub right_5 : (file : DrawFile) (table : Table) (given : List TeamId) → given ≡ opponents table → HasForm file → IsTableOf file table → NoneNotOnce file given
-    → NonePairs file given Letters → NonePairs file given Tags → NonePairs file given Forbidden → IsLegal file table
-right_5 file (Pairs pairs) given is formed of_file none letters tags forbidden =
-    legal_by_passes file pairs formed of_file (rw is at none) (rw is at letters) (rw is at tags) (rw is at forbidden)
+  pub judged_legal : HasForm file → IsPairTableOf file table → NoneNotOnce file table
+      → NonePairs file table Letters → NonePairs file table Tags → NonePairs file table Forbidden → IsJudgement file (pairs_of table) Legal
+  judged_legal formed of_file none letters tags forbidden = record {
+    legal = λ _. (of_file.kind, legal_by file table (formed.pairing of_file.kind) of_file.size (all_once table (winners file) none) (keeps file table Letters letters) (keeps file table Tags tags) (keeps file table Forbidden forbidden));
+    only_legal = λ _. refl;
+    broken = λ r f s e. cc;
+  }

@@ -11,3 +11,6 @@ pub mod TextsRead
 pub mod Halves
 pub mod TablesRead
 pub mod Among
+pub mod Picked
+pub mod Named
+pub mod StateMoves

@@ -1,6 +1,7 @@
 -- A table is read of its text, and of no other table's.
 use Rattle.std.proofs.Common.{◌≡◌, ℕ, zero, suc, ◌+◌, ◌≤◌, List, [], ◌∷◌, ◌++◌, length, Option, Some, None, arith, sym, ap, ◌∙◌}
 use Rattle.std.specs.Prelude.{option_map}
+use Rattle.team_files.specs.declared.kind.Kind.{Kind}
 use Rattle.team_files.specs.declared.team_id.TeamId.{TeamId}
 use Rattle.rule_sets.specs.Files.{DrawFile}
 use Rattle.rule_sets.specs.Forms.{HasForm, FilesHaveForm}
@@ -22,16 +23,16 @@ are_within : (file : DrawFile) (ts : List TeamId) → AreTeamsOf file ts → All
 are_within file [] h = tt
 are_within file (t ∷ ts) h = (h.0, are_within file ts h.1)
 
-pub read_is_text : (file : DrawFile) (pairs : PairTable) (more : ℕ) (bytes : List ℕ) → more + 1 ≡ length (runners_up file)
+pub read_is_text : (file : DrawFile) (pairs : PairTable) (more : ℕ) (bytes : List ℕ) → file.kind ≡ Kind.Pairing → more + 1 ≡ length (runners_up file)
     → teams_in file.teams more bytes ≡ Some pairs.winners → IsTextOf file (Pairs pairs) bytes
-read_is_text file pairs more bytes size e =
+read_is_text file pairs more bytes kind size e =
     let h = read_has_text file.teams more bytes pairs.winners e in
-    record { of_file = record { size = h.size ∙ size; teams = are_teams file pairs.winners h.within }; text = h.text }
+    record { of_file = record { kind = kind; size = h.size ∙ size; teams = are_teams file pairs.winners h.within }; text = h.text }
 
 pub text_gives : (file : DrawFile) (pairs : PairTable) (more : ℕ) (bytes : List ℕ) → HasForm file → more + 1 ≡ length (runners_up file)
     → IsTextOf file (Pairs pairs) bytes → teams_in file.teams more bytes ≡ Some pairs.winners
 text_gives file pairs more bytes form size h =
-    text_is_read file.teams form.codes form.distinct_codes more bytes pairs.winners
+    text_is_read file.teams form.common.codes form.common.distinct_codes more bytes pairs.winners
     (record { size = h.of_file.size ∙ sym size; within = are_within file pairs.winners h.of_file.teams; text = h.text })
 
 pub no_text : (file : DrawFile) (table : Table) (more : ℕ) (bytes : List ℕ) → HasForm file → more + 1 ≡ length (runners_up file)
@@ -53,7 +54,7 @@ one_before (suc m) le = (m, omega arith)
 pub one_table_of_text : FilesHaveForm → OneTableOfText
 one_table_of_text forms file (Pairs one) (Pairs other) bytes formed h g =
     let form = forms file formed in
-    let more = one_before (length (runners_up file)) (half file form).1 in
+    let more = one_before (length (runners_up file)) (half file form.common (form.pairing h.of_file.kind)).1 in
     let a = text_gives file one more.0 bytes form more.1 h in
     let b = text_gives file other more.0 bytes form more.1 g in
     let same : one.winners ≡ other.winners = same_item one.winners other.winners (sym a ∙ b) in

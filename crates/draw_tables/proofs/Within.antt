@@ -1,6 +1,6 @@
 -- The teams of a pot, and the candidates, are teams of the file.
 use Rattle.std.proofs.Common.{ℕ, ◌+◌, ◌<◌, ◌≤◌, Bool, true, false, List, [], ◌∷◌, length, arith}
-use Rattle.std.specs.Prelude.{filter, ◌==◌, if◌then◌else◌}
+use Rattle.std.specs.Prelude.{filter, not, ◌==◌, if◌then◌else◌}
 use Rattle.team_files.specs.declared.team.Team.{Team}
 use Rattle.team_files.specs.declared.team_id.TeamId.{TeamId}
 use Rattle.rule_sets.specs.Files.{DrawFile}
@@ -8,8 +8,9 @@ use Rattle.draw_tables.specs.declared.moves.Move.{Move}
 use Rattle.draw_tables.specs.declared.moves.Phase.{Phase}
 use Rattle.draw_tables.specs.declared.moves.Phase.TheVariants.{Runner, Opponent, Complete}
 use Rattle.draw_tables.specs.Pots.{pot_from, AreTeamsOf, winners, runners_up, teams_of_pot}
-use Rattle.draw_tables.specs.States.{is_drawn, is_paired, candidate_teams, candidate_teams_in, phase_of}
-use Rattle.std.specs.Prelude.{not}
+use Rattle.draw_tables.specs.PairingPhases.{is_drawn, is_paired, undrawn, unpaired}
+use Rattle.draw_tables.specs.States.{team_choices, candidates_in}
+use Rattle.draw_tables.specs.Names.{AreChoicesOf}
 
 either : (file : DrawFile) (t : TeamId) (ts : List TeamId) (b : Bool)
     → t.0 < length file.teams → AreTeamsOf file ts → AreTeamsOf file (if b then t ∷ ts else ts)
@@ -28,10 +29,13 @@ filter_within : (file : DrawFile) (p : TeamId → Bool) (ts : List TeamId) → A
 filter_within file p [] h = tt
 filter_within file p (t ∷ ts) h = either file t (filter p ts) (p t) h.0 (filter_within file p ts h.1)
 
-in_phase : (file : DrawFile) (ms : List Move) (p : Phase) → AreTeamsOf file (candidate_teams_in file ms p)
-in_phase file ms Runner = filter_within file (λ r. not (is_drawn r ms)) (runners_up file) (teams_within file 2)
-in_phase file ms (Opponent r) = filter_within file (λ w. not (is_paired w ms)) (winners file) (teams_within file 1)
-in_phase file ms Complete = tt
+-- ---- candidates
 
-pub candidates_within : (file : DrawFile) (ms : List Move) → AreTeamsOf file (candidate_teams file ms)
-candidates_within file ms = in_phase file ms (phase_of file ms)
+choices_of : (file : DrawFile) (ts : List TeamId) → AreTeamsOf file ts → AreChoicesOf file (team_choices ts)
+choices_of file [] h = tt
+choices_of file (t ∷ ts) h = (h.0, choices_of file ts h.1)
+
+pub candidates_within : (file : DrawFile) (ms : List Move) (p : Phase) → AreChoicesOf file (candidates_in file ms p)
+candidates_within file ms Runner = choices_of file (undrawn file ms) (filter_within file (λ r. not (is_drawn r ms)) (runners_up file) (teams_within file 2))
+candidates_within file ms (Opponent r) = choices_of file (unpaired file ms) (filter_within file (λ w. not (is_paired w ms)) (winners file) (teams_within file 1))
+candidates_within file ms Complete = tt

@@ -1,8 +1,10 @@
 pub mod Pots
 pub mod Pairings
+pub mod PairingPhases
+pub mod Tables
 pub mod States
 pub mod Offers
-pub mod Tables
+pub mod Names
 pub mod Verdicts
 pub mod TableTexts
 pub mod Passes

@@ -1,8 +1,12 @@
--- The pots of a pairing: pot 1 has the winners, pot 2 the runners-up.
+-- The pots of a file, and teams by their numbers. In a pairing pot 1 has the winners, pot 2 the runners-up.
 use Rattle.std.specs.Prelude.{◌≡◌, ℕ, ◌+◌, ◌<◌, ◌==◌, if◌then◌else◌, List, [], ◌∷◌, length, Some, slice_get}
 use Rattle.team_files.specs.declared.team.Team.{Team}
 use Rattle.team_files.specs.declared.team_id.TeamId.{TeamId}
 use Rattle.rule_sets.specs.Files.{DrawFile}
+
+-- the list has the item
+abbrev pub IsAmong : {A : Type 0} → List A → A → Type 0
+IsAmong xs x = (k : ℕ) × (slice_get xs k ≡ Some x)
 
 -- the teams of a pot in file order, where teams are counted from i
 abbrev pub pot_from : ℕ → ℕ → List Team → List TeamId
@@ -25,11 +29,11 @@ runners_up file = teams_of_pot 2 file
 abbrev pub IsTeam : DrawFile → TeamId → Team → Type 0
 IsTeam file id team = slice_get file.teams id.0 ≡ Some team
 
+-- the number is that of a team of the file
+abbrev pub IsTeamOf : DrawFile → TeamId → Type 0
+IsTeamOf file id = id.0 < length file.teams
+
 -- each is a team of the file
 abbrev pub AreTeamsOf : DrawFile → List TeamId → Type 0
 AreTeamsOf file [] = Unit {0}
-AreTeamsOf file (t ∷ ts) = (t.0 < length file.teams) × AreTeamsOf file ts
-
--- the list has the item
-abbrev pub IsAmong : {A : Type 0} → List A → A → Type 0
-IsAmong xs x = (k : ℕ) × (slice_get xs k ≡ Some x)
+AreTeamsOf file (t ∷ ts) = IsTeamOf file t × AreTeamsOf file ts

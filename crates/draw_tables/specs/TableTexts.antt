@@ -4,7 +4,8 @@ use Rattle.team_files.specs.declared.team.Team.{Team}
 use Rattle.team_files.specs.declared.team_id.TeamId.{TeamId}
 use Rattle.rule_sets.specs.Files.{DrawFile, IsWellFormed}
 use Rattle.draw_tables.specs.declared.table.Table.{Table}
-use Rattle.draw_tables.specs.Tables.{IsTableOf, opponents}
+use Rattle.draw_tables.specs.declared.table.Table.TheVariants.{Pairs}
+use Rattle.draw_tables.specs.Tables.{IsPairTableOf}
 
 abbrev pub code_in : Option Team → List ℕ
 code_in None = []
@@ -24,14 +25,14 @@ abbrev pub codes_text : List Team → List TeamId → List ℕ
 codes_text teams [] = []
 codes_text teams (t ∷ ts) = code_of teams t ++ spaced teams ts
 
--- The text of a table: in a pairing, for each runner-up in file order, the code of its winner.
-abbrev pub table_text : DrawFile → Table → List ℕ
-table_text file table = codes_text file.teams (opponents table)
+-- The bytes are the text of this table of a pairing: for each runner-up in file order, the code of its winner.
+pub record IsTextOfPairs (file : DrawFile) (winners : List TeamId) (bytes : List ℕ) : Type 0 where
+  pub of_file : IsPairTableOf file winners
+  pub text : codes_text file.teams winners ≡ bytes
 
 -- The bytes are the text of this table of the file.
-pub record IsTextOf (file : DrawFile) (table : Table) (bytes : List ℕ) : Type 0 where
-  pub of_file : IsTableOf file table
-  pub text : table_text file table ≡ bytes
+abbrev pub IsTextOf : DrawFile → Table → List ℕ → Type 0
+IsTextOf file (Pairs pairs) bytes = IsTextOfPairs file pairs.winners bytes
 
 -- ---- law
 

@@ -59,10 +59,14 @@ IsBrokenPairing file table rule first second =
 abbrev pub IsBroken : DrawFile → Table → ℕ → ℕ → ℕ → Type 0
 IsBroken file (Pairs pairs) rule first second = IsBrokenPairing file pairs.winners rule first second
 
--- The first case: each case has a greater rule, or the same rule and a first number that is not smaller.
+-- one case is told before another, or is the same: by the rule, then by the first number, then by the second
+abbrev pub IsNotAfter : ℕ → ℕ → ℕ → ℕ → ℕ → ℕ → Type 0
+IsNotAfter rule first second r f s = (rule < r) ⊎ ((rule ≡ r) × ((first < f) ⊎ ((first ≡ f) × (second ≤ s))))
+
+-- The first case: the least by the rule, the first and the second number.
 pub record IsFirstBroken (file : DrawFile) (table : Table) (rule first second : ℕ) : Type 0 where
   pub broken : IsBroken file table rule first second
-  pub others : (r f s : ℕ) → IsBroken file table r f s → (rule < r) ⊎ ((rule ≡ r) × (first ≤ f))
+  pub least : (r f s : ℕ) → IsBroken file table r f s → IsNotAfter rule first second r f s
 
 -- ---- laws
 

@@ -1,53 +1,71 @@
-ghost use Rattle.std.specs.Prelude.{◌≡◌, true, false};
+ghost use Rattle.std.specs.Prelude.{◌≡◌, ◌↔◌, IsTrue, MatchOption};
 ghost use Rattle.draw_tables.specs.Pots.{IsAmong, teams_of_pot};
-ghost use Rattle.draw_tables.specs.States.{candidates, candidate_teams_in, undrawn, unpaired};
+ghost use Rattle.draw_tables.specs.PairingPhases.{undrawn, unpaired};
+ghost use Rattle.draw_tables.specs.States.{IsMoveOf, candidates, candidates_in, move_in};
 
-use crate::candidates::{is_drawn, is_paired, phase_of};
 use crate::moves::{Choice, Move, Phase};
+use crate::phases::{is_drawn, is_paired, phase_of};
 use rule_sets::DrawFile;
 use team_files::TeamId;
 
 /// Whether the choice is a candidate of the phase after the moves. Takes no memory.
 pub fn is_candidate(file: &DrawFile, moves: &[Move], choice: Choice) -> bool
-    ensures yes { result ≡ true → IsAmong (candidates file.now moves.now) choice }
-    ensures no { result ≡ false → IsAmong (candidates file.now moves.now) choice → ⊥ }
+    ensures { IsTrue result ↔ IsAmong (candidates file.now moves.now) choice }
 {
-    let Choice::Team(team) = choice;
-    is_candidate_in(file, moves, phase_of(file, moves), team)
+    is_candidate_in(file, moves, phase_of(file, moves), choice)
 }
 
-/// Whether a phase lets the team's ball come.
-fn is_candidate_in(file: &DrawFile, moves: &[Move], phase: Phase, team: TeamId) -> bool
-    ensures yes { result ≡ true → IsAmong (candidate_teams_in file.now moves.now phase) team }
-    ensures no { result ≡ false → IsAmong (candidate_teams_in file.now moves.now phase) team → ⊥ }
+/// The move that the choice adds after the moves, or none where it is no candidate. Takes no memory.
+pub fn move_of(file: &DrawFile, moves: &[Move], choice: Choice) -> Option<Move>
+    ensures { MatchOption result (IsAmong (candidates file.now moves.now) choice → ⊥) (λ m. IsMoveOf file.now moves.now choice m) }
 {
-    match phase {
-        Phase::Runner => is_undrawn(file, moves, team),
-        Phase::Opponent { runner: _ } => is_unpaired(file, moves, team),
-        Phase::Complete => false,
+    let phase = phase_of(file, moves);
+    if !is_candidate_in(file, moves, phase, choice) {
+        return None;
+    }
+    move_in(phase, choice)
+}
+
+/// The move that a choice is in a phase, or none where the phase takes no such choice. Takes no
+/// memory.
+pub fn move_in(phase: Phase, choice: Choice) -> Option<Move>
+    ensures { result ≡ move_in phase choice }
+{
+    match (phase, choice) {
+        (Phase::Runner, Choice::Team(team)) => Some(Move::Drawn(team)),
+        (Phase::Opponent { runner }, Choice::Team(team)) => Some(Move::Paired(runner, team)),
+        (Phase::Complete, _) => None,
+    }
+}
+
+/// Whether the choice is a candidate of a phase.
+fn is_candidate_in(file: &DrawFile, moves: &[Move], phase: Phase, choice: Choice) -> bool
+    ensures { IsTrue result ↔ IsAmong (candidates_in file.now moves.now phase) choice }
+{
+    match (phase, choice) {
+        (Phase::Runner, Choice::Team(team)) => is_undrawn(file, moves, team),
+        (Phase::Opponent { runner: _ }, Choice::Team(team)) => is_unpaired(file, moves, team),
+        (Phase::Complete, _) => false,
     }
 }
 
 /// Whether the team is a runner-up that was not drawn.
 fn is_undrawn(file: &DrawFile, moves: &[Move], team: TeamId) -> bool
-    ensures yes { result ≡ true → IsAmong (undrawn file.now moves.now) team }
-    ensures no { result ≡ false → IsAmong (undrawn file.now moves.now) team → ⊥ }
+    ensures { IsTrue result ↔ IsAmong (undrawn file.now moves.now) team }
 {
     is_in_pot(file, team, 2) && !is_drawn(moves, team)
 }
 
 /// Whether the team is a winner that is not paired.
 fn is_unpaired(file: &DrawFile, moves: &[Move], team: TeamId) -> bool
-    ensures yes { result ≡ true → IsAmong (unpaired file.now moves.now) team }
-    ensures no { result ≡ false → IsAmong (unpaired file.now moves.now) team → ⊥ }
+    ensures { IsTrue result ↔ IsAmong (unpaired file.now moves.now) team }
 {
     is_in_pot(file, team, 1) && !is_paired(moves, team)
 }
 
 /// Whether the team is one of the file's, and of the pot.
 fn is_in_pot(file: &DrawFile, team: TeamId, pot: u32) -> bool
-    ensures yes { result ≡ true → IsAmong (teams_of_pot pot file.now) team }
-    ensures no { result ≡ false → IsAmong (teams_of_pot pot file.now) team → ⊥ }
+    ensures { IsTrue result ↔ IsAmong (teams_of_pot pot file.now) team }
 {
     let teams = file.teams();
     team.0 < teams.number() && teams.get(team).pot == pot

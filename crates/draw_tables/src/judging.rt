@@ -2,8 +2,8 @@ ghost use Rattle.std.specs.Prelude.{◌≡◌, ℕ, ◌<◌, ◌^◌, length};
 ghost use Rattle.rule_sets.specs.Files.{IsWellFormed};
 ghost use Rattle.rule_sets.specs.Forms.{HasForm};
 ghost use Rattle.draw_tables.specs.Pots.{AreTeamsOf, runners_up, winners};
-ghost use Rattle.draw_tables.specs.Passes.{breaks, first_not_once, first_pair};
-ghost use Rattle.draw_tables.specs.Tables.{IsLegal, IsTableOf};
+ghost use Rattle.draw_tables.specs.Passes.{IsJudgement, breaks, first_not_once, first_pair};
+ghost use Rattle.draw_tables.specs.Tables.{IsLegal, IsPairTableOf, IsTableOf};
 ghost use Rattle.draw_tables.specs.Verdicts.{IsFirstBroken, times_given};
 
 use crate::pair_rule::PairRule;
@@ -21,22 +21,31 @@ pub fn judge(file: &DrawFile, table: &Table) -> Verdict
     ensures only_legal { IsLegal file.now table.now → result ≡ Verdict.Legal }
     ensures broken { (rule first second : ℕ) → result ≡ Verdict.Broken rule first second → IsFirstBroken file.now table.now rule first second }
 {
+    match table {
+        Table::Pairs(pairs) => judge_pairing(file, pairs.winners()),
+    }
+}
+
+/// What the rules of a pairing say of the table that gives these winners.
+fn judge_pairing(file: &DrawFile, winners: &[TeamId]) -> Verdict
+    requires { IsPairTableOf file.now winners.now }
+    ensures { IsJudgement file.now (Table.Pairs (record { winners = winners.now })) result }
+{
     expect_form(file);
-    let given = table.opponents();
-    if let Some(found) = first_not_once(file, given) {
+    if let Some(found) = first_not_once(file, winners) {
         return Verdict::Broken {
             rule: 1,
             first: found.0.0,
             second: found.1,
         };
     }
-    if let Some(pair) = first_pair(file, given, PairRule::Letters) {
+    if let Some(pair) = first_pair(file, winners, PairRule::Letters) {
         return broken_pair(2, pair);
     }
-    if let Some(pair) = first_pair(file, given, PairRule::Tags) {
+    if let Some(pair) = first_pair(file, winners, PairRule::Tags) {
         return broken_pair(3, pair);
     }
-    if let Some(pair) = first_pair(file, given, PairRule::Forbidden) {
+    if let Some(pair) = first_pair(file, winners, PairRule::Forbidden) {
         return broken_pair(4, pair);
     }
     Verdict::Legal

@@ -1,3 +1,5 @@
+ghost use Rattle.draw_tables.specs.Names.{StatesNameTeams};
+ghost use Rattle.draw_tables.specs.Offers.{OfferWhereDecided, OfferedWherePossible, OneOffer};
 ghost use Rattle.draw_tables.specs.Verdicts.{LegalWhereNoneBroken, NoneBrokenWhereLegal, OneFirstBroken};
 ghost use Rattle.draw_tables.specs.TableTexts.{OneTableOfText};
 
@@ -22,3 +24,26 @@ pub fn law_one_table_of_text()
 {
     law_files_have_form();
 }
+
+/// A state has at most one offer, so that what is offered is a function of the file and the moves.
+/// Does nothing.
+pub fn law_one_offer()
+    ensures { OneOffer }
+{}
+
+/// What is offered in a state is exactly what is possible in it. Does nothing.
+pub fn law_offered_where_possible()
+    ensures { OfferedWherePossible }
+{}
+
+/// A state has an offer where it is decided of each candidate's move whether the moves with it can
+/// be completed. Does nothing.
+pub fn law_offer_where_decided()
+    ensures { OfferWhereDecided }
+{}
+
+/// The moves, the phase, the candidates and the offer of a state name teams of its file only. Does
+/// nothing.
+pub fn law_states_name_teams()
+    ensures { StatesNameTeams }
+{}

@@ -2,12 +2,13 @@
 #![tactic(auto)]
 
 mod candidacy;
-mod candidates;
+mod choices;
 mod judging;
 mod laws;
 mod moves;
 mod pair_rule;
 mod pair_table;
+mod phases;
 mod pots;
 mod rules;
 mod table;
@@ -19,12 +20,16 @@ mod team_ids;
 mod tests;
 mod verdict;
 
-pub use candidacy::is_candidate;
-pub use candidates::{candidate_teams, move_of, phase_of};
+pub use candidacy::{is_candidate, move_in, move_of};
+pub use choices::candidates;
 pub use judging::judge;
-pub use laws::{law_legal_where_nothing_broken, law_one_first_broken, law_one_table_of_text};
+pub use laws::{
+    law_legal_where_nothing_broken, law_offer_where_decided, law_offered_where_possible,
+    law_one_first_broken, law_one_offer, law_one_table_of_text, law_states_name_teams,
+};
 pub use moves::{Choice, Move, Phase};
 pub use pair_table::PairTable;
+pub use phases::phase_of;
 pub use pots::teams_of_pot;
 pub use rules::may_meet;
 pub use std::alloc::AllocError as NoMemory;

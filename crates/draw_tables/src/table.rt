@@ -1,6 +1,5 @@
 use crate::pair_table::PairTable;
 use std::alloc::{AllocError, Global};
-use team_files::TeamId;
 
 /// What a completed draw gives.
 #[derive(Drop)]
@@ -11,16 +10,6 @@ pub enum Table {
 
 impl Table {
     ghost use Rattle.std.specs.Prelude.{◌≡◌, IfOk};
-    ghost use Rattle.draw_tables.specs.Tables.{opponents};
-
-    /// The teams that it gives, one for each runner-up, in file order. Takes no memory.
-    pub fn opponents(&self) -> &[TeamId]
-        ensures { result.now ≡ opponents self.now }
-    {
-        match self {
-            Table::Pairs(pairs) => pairs.winners(),
-        }
-    }
 
     /// An equal table. The only error is want of memory.
     pub fn clone_in(&self, alloc: Global) -> Result<Table, AllocError>

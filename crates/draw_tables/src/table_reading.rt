@@ -10,12 +10,23 @@ use crate::table::Table;
 use crate::table_fault::TableFault;
 use rule_sets::DrawFile;
 use std::alloc::Global;
-use team_files::{Code, TeamId, Teams};
+use team_files::{Code, Kind, TeamId, Teams};
 
-/// The table of the file that has these bytes as its text. Any team's code may stand where a winner
-/// is given. `NotTable` exactly where the bytes are the text of no table of the file; else the only
-/// fault is want of memory.
+/// The table of the file that has these bytes as its text. In a pairing any team's code may stand
+/// where a winner is given. `NotTable` exactly where the bytes are the text of no table of the file;
+/// else the only fault is want of memory.
 pub fn read_table(alloc: Global, file: &DrawFile, bytes: &[u8]) -> Result<Table, TableFault>
+    ensures ok { IfOk result (λ table. IsTextOf file.now table bytes.now) }
+    ensures not_table { result ≡ Err TableFault.NotTable → (table : Table) → IsTextOf file.now table bytes.now → ⊥ }
+{
+    match file.kind() {
+        Kind::Pairing => read_pairs(alloc, file, bytes),
+    }
+}
+
+/// The table of a pairing that has these bytes as its text.
+fn read_pairs(alloc: Global, file: &DrawFile, bytes: &[u8]) -> Result<Table, TableFault>
+    requires { file.now.kind ≡ Kind.Pairing }
     ensures ok { IfOk result (λ table. IsTextOf file.now table bytes.now) }
     ensures not_table { result ≡ Err TableFault.NotTable → (table : Table) → IsTextOf file.now table bytes.now → ⊥ }
 {
@@ -26,8 +37,9 @@ pub fn read_table(alloc: Global, file: &DrawFile, bytes: &[u8]) -> Result<Table,
     Ok(Table::Pairs(PairTable::new(winners)))
 }
 
-/// How many runners-up the file has after the first: half of its teams are runners-up.
+/// How many runners-up the file of a pairing has after the first: half of its teams are runners-up.
 fn runners_after_first(file: &DrawFile) -> u32
+    requires { file.now.kind ≡ Kind.Pairing }
     ensures { result + 1 ≡ length (runners_up file.now) }
 {
     expect_form(file);

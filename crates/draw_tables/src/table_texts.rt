@@ -1,7 +1,7 @@
 ghost use Rattle.std.specs.Prelude.{◌≡◌, ◌<◌, ◌++◌, length, IfOk, OnOk};
 ghost use Rattle.draw_tables.specs.Pots.{AreTeamsOf};
 ghost use Rattle.draw_tables.specs.Tables.{IsTableOf};
-ghost use Rattle.draw_tables.specs.TableTexts.{code_of, codes_text, table_text};
+ghost use Rattle.draw_tables.specs.TableTexts.{IsTextOf, code_of, codes_text};
 
 use crate::NoMemory;
 use crate::table::Table;
@@ -13,10 +13,20 @@ use team_files::TeamId;
 /// one space between the codes and none at the ends. The only error is want of memory.
 pub fn table_text(alloc: Global, file: &DrawFile, table: &Table) -> Result<Vec<u8>, NoMemory>
     requires { IsTableOf file.now table.now }
-    ensures { IfOk result (λ text. text.items ≡ table_text file.now table.now) }
+    ensures { IfOk result (λ text. IsTextOf file.now table.now text.items) }
+{
+    match table {
+        Table::Pairs(pairs) => codes_text(alloc, file, pairs.winners()),
+    }
+}
+
+/// The codes of the teams, with one space between two and none at the ends.
+fn codes_text(alloc: Global, file: &DrawFile, teams: &[TeamId]) -> Result<Vec<u8>, NoMemory>
+    requires { AreTeamsOf file.now teams.now }
+    ensures { IfOk result (λ text. text.items ≡ codes_text file.now.teams teams.now) }
 {
     let mut text = Vec::new(alloc);
-    add_codes(&mut text, file, table.opponents())?;
+    add_codes(&mut text, file, teams)?;
     Ok(text)
 }
 

@@ -1,18 +1,15 @@
-use Rattle.std.proofs.Common.{◌≡◌, ℕ, ◌<◌, true, false, List, Some, slice_get, length, arith, sym, ◌∙◌, ap, zero-add}
-use Rattle.std.specs.Prelude.{◌==◌}
 use Rattle.std.proofs.lemmas.Bool.Decides.{nat_tests}
+use Rattle.std.proofs.Common.{◌≡◌, ℕ, ◌<◌, ◌≤◌, nat_lt, true, List, Some, slice_get, length, arith, sym, ◌∙◌, ap, zero-add}
 use Rattle.std.proofs.lemmas.Option.{slice_get_within}
 use Rattle.team_files.specs.declared.team.Team.{Team}
 use Rattle.team_files.specs.declared.team_id.TeamId.{TeamId}
 use Rattle.draw_tables.specs.Pots.{IsAmong, pot_from}
+use Rattle.draw_tables.proofs.Counts.{same_by_test, test_same}
 use Rattle.draw_tables.proofs.Among.{pot_among, among_pot}
 use Rattle.draw_tables.proofs.candidacy.is_in_pot.Goals as goal
 
-is_equal : (a b : ℕ) → (a == b) ≡ true → a ≡ b
-is_equal a b e = grind (arith, nat_tests)
-
-not_equal : (a b : ℕ) → (a == b) ≡ false → a ≡ b → ⊥
-not_equal a b e = grind (arith, nat_tests)
+not_less : (a b : ℕ) → nat_lt a b ≡ true → b ≤ a → ⊥
+not_less a b e le = grind (arith, nat_tests)
 
 module _ (pot : ℕ) (ts : List Team) (x : TeamId) where
   stands_in : (t : Team) → slice_get ts x.0 ≡ Some t → t.pot ≡ pot → IsAmong (pot_from pot 0 ts) x
@@ -30,17 +27,17 @@ module _ (pot : ℕ) (ts : List Team) (x : TeamId) where
       let alike : t ≡ found.1 = cc in
       ap (λ u. u.pot) alike ∙ found.2.pot_is
 
-pub returns-then-team-number-clause-yes : goal.returns-then-team-number-clause-yes
-returns-then-team-number-clause-yes c = λ e.
-    rw (← c.teams-teams.ensures) (stands_in c.args.pot c.teams-teams.result.now c.args.team c.get.result.now c.get.ensures (is_equal _ _ e))
+pub returns-then-team-number : goal.returns-then-team-number
+returns-then-team-number c = (
+  λ e. rw (← c.teams-teams.ensures) (stands_in c.args.pot c.teams-teams.result.now c.args.team c.get.result.now c.get.ensures (same_by_test _ _ e)),
+  λ h. test_same _ _ (pot_of c.args.pot c.teams-teams.result.now c.args.team c.get.result.now c.get.ensures (rw (← c.teams-teams.ensures) at h)),
+)
 
-pub returns-then-team-number-clause-no : goal.returns-then-team-number-clause-no
-returns-then-team-number-clause-no c = λ e h.
-    let here = rw (← c.teams-teams.ensures) at h in
-    not_equal _ _ e (pot_of c.args.pot c.teams-teams.result.now c.args.team c.get.result.now c.get.ensures here)
-
-pub returns-else-team-number-clause-no : goal.returns-else-team-number-clause-no
-returns-else-team-number-clause-no c = λ _ h.
-    let here = rw (← c.teams-teams.ensures) at h in
-    let lt = within c.args.pot c.teams-teams.result.now c.args.team here in
-    omega (arith, c.number.ensures.number)
+pub returns-else-team-number : goal.returns-else-team-number
+returns-else-team-number c = (
+  λ e. absurd (not_less c.args.team.0 c.number.result e (omega arith)),
+  λ h.
+      let here = rw (← c.teams-teams.ensures) at h in
+      let lt = within c.args.pot c.teams-teams.result.now c.args.team here in
+      absurd (omega (arith, c.number.ensures.number)),
+)

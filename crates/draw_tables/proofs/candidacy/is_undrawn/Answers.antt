@@ -1,23 +1,17 @@
-use Rattle.std.proofs.Common.{◌≡◌, Bool, true, false, not, ap, sym, ◌∙◌}
+use Rattle.std.proofs.Common.{not, ap, sym, ◌∙◌}
 use Rattle.draw_tables.specs.Pots.{runners_up}
-use Rattle.draw_tables.specs.States.{is_drawn}
+use Rattle.draw_tables.specs.PairingPhases.{is_drawn}
 use Rattle.draw_tables.proofs.Among.{kept_among, among_kept}
 use Rattle.draw_tables.proofs.candidacy.is_undrawn.Goals as goal
 
-clash : (b : Bool) → not b ≡ true → not b ≡ false → ⊥
-clash true e f = cc
-clash false e f = cc
+pub returns-then-is_in_pot : goal.returns-then-is_in_pot
+returns-then-is_in_pot c = (
+  λ e. kept_among (λ t. not (is_drawn t c.args.moves.now)) (runners_up c.args.file.now) c.args.team (c.is_in_pot.ensures.0 c.if-is_in_pot.true) (ap not (sym c.is_drawn.ensures) ∙ e),
+  λ h. ap not c.is_drawn.ensures ∙ (among_kept (λ t. not (is_drawn t c.args.moves.now)) (runners_up c.args.file.now) c.args.team h).0,
+)
 
-pub returns-then-is_in_pot-clause-yes : goal.returns-then-is_in_pot-clause-yes
-returns-then-is_in_pot-clause-yes c = λ e.
-    kept_among (λ t. not (is_drawn t c.args.moves.now)) (runners_up c.args.file.now) c.args.team (c.is_in_pot.ensures.yes c.if-is_in_pot.true) (ap not (sym c.is_drawn.ensures) ∙ e)
-
-pub returns-then-is_in_pot-clause-no : goal.returns-then-is_in_pot-clause-no
-returns-then-is_in_pot-clause-no c = λ e h.
-    let both = among_kept (λ t. not (is_drawn t c.args.moves.now)) (runners_up c.args.file.now) c.args.team h in
-    clash (is_drawn c.args.team c.args.moves.now) both.0 (ap not (sym c.is_drawn.ensures) ∙ e)
-
-pub returns-else-is_in_pot-clause-no : goal.returns-else-is_in_pot-clause-no
-returns-else-is_in_pot-clause-no c = λ e h.
-    let both = among_kept (λ t. not (is_drawn t c.args.moves.now)) (runners_up c.args.file.now) c.args.team h in
-    c.is_in_pot.ensures.no e both.1
+pub returns-else-is_in_pot : goal.returns-else-is_in_pot
+returns-else-is_in_pot c = (
+  λ e. cc,
+  λ h. c.is_in_pot.ensures.1 (among_kept (λ t. not (is_drawn t c.args.moves.now)) (runners_up c.args.file.now) c.args.team h).1,
+)

@@ -5,7 +5,7 @@ use Rattle.draw_tables.proofs.table_reading.runners_after_first.Goals as goal
 
 pub overflow_sub-result : goal.overflow_sub-result
 overflow_sub-result c =
-    let h = half c.args.file.now c.expect_form.ensures.form in
+    let h = half c.args.file.now c.expect_form.ensures.form.common (c.expect_form.ensures.form.pairing c.requires) in
     let whole = h.0 in
     let some = h.1 in
     let number = c.number.ensures.number in
@@ -15,7 +15,7 @@ overflow_sub-result c =
 
 pub returns : goal.returns
 returns c =
-    let h = half c.args.file.now c.expect_form.ensures.form in
+    let h = half c.args.file.now c.expect_form.ensures.form.common (c.expect_form.ensures.form.pairing c.requires) in
     let whole = h.0 in
     let some = h.1 in
     let number = c.number.ensures.number in

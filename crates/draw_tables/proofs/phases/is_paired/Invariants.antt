@@ -1,6 +1,6 @@
 use Rattle.std.proofs.Common.{◌≡◌, drop}
-use Rattle.draw_tables.specs.States.{is_paired}
-use Rattle.draw_tables.proofs.candidates.is_paired.Given as goal
+use Rattle.draw_tables.specs.PairingPhases.{is_paired}
+use Rattle.draw_tables.proofs.phases.is_paired.Given as goal
 
 -- none of the moves before this one
 abbrev pub invariant-loop-step : goal.invariant-loop-step

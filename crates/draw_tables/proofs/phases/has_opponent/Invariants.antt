@@ -1,6 +1,6 @@
 use Rattle.std.proofs.Common.{◌≡◌, drop}
-use Rattle.draw_tables.specs.States.{has_opponent}
-use Rattle.draw_tables.proofs.candidates.has_opponent.Given as goal
+use Rattle.draw_tables.specs.PairingPhases.{has_opponent}
+use Rattle.draw_tables.proofs.phases.has_opponent.Given as goal
 
 -- none of the moves before this one
 abbrev pub invariant-loop-step : goal.invariant-loop-step

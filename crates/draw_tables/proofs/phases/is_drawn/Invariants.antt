@@ -1,6 +1,6 @@
 use Rattle.std.proofs.Common.{◌≡◌, drop}
-use Rattle.draw_tables.specs.States.{is_drawn}
-use Rattle.draw_tables.proofs.candidates.is_drawn.Given as goal
+use Rattle.draw_tables.specs.PairingPhases.{is_drawn}
+use Rattle.draw_tables.proofs.phases.is_drawn.Given as goal
 
 -- none of the moves before this one
 abbrev pub invariant-loop-step : goal.invariant-loop-step

@@ -1,8 +1,8 @@
 use Rattle.std.proofs.Common.{◌≡◌, drop, not}
 use Rattle.std.specs.Prelude.{filter}
 use Rattle.draw_tables.specs.Pots.{pot_from}
-use Rattle.draw_tables.specs.States.{is_drawn, undrawn}
-use Rattle.draw_tables.proofs.candidates.has_undrawn.Given as goal
+use Rattle.draw_tables.specs.PairingPhases.{is_drawn, undrawn}
+use Rattle.draw_tables.proofs.phases.has_undrawn.Given as goal
 
 -- each runner-up before this place was drawn
 abbrev pub invariant-loop-place : goal.invariant-loop-place

@@ -1,0 +1,109 @@
+ghost use Rattle.std.specs.Prelude.{◌≡◌, ◌≢◌, [], true, false};
+ghost use Rattle.draw_tables.specs.PairingPhases.{is_drawn, has_opponent, is_paired, last_drawn, waiting, undrawn, pairing_phase};
+ghost use Rattle.draw_tables.specs.States.{phase_of};
+
+use crate::moves::{Move, Phase};
+use rule_sets::DrawFile;
+use team_files::{Kind, TeamId};
+
+/// What comes after the moves, by the kind of the draw. Takes no memory.
+pub fn phase_of(file: &DrawFile, moves: &[Move]) -> Phase
+    ensures { result ≡ phase_of file.now moves.now }
+{
+    match file.kind() {
+        Kind::Pairing => pairing_phase(file, moves),
+    }
+}
+
+/// What comes after the moves of a pairing: Opponent where the runner-up that was drawn last has no
+/// opponent, else Runner where some runner-up is undrawn, else Complete.
+fn pairing_phase(file: &DrawFile, moves: &[Move]) -> Phase
+    ensures { result ≡ pairing_phase file.now moves.now }
+{
+    match waiting(moves) {
+        Some(runner) => Phase::Opponent { runner },
+        None if has_undrawn(file, moves) => Phase::Runner,
+        None => Phase::Complete,
+    }
+}
+
+/// The last drawn runner-up, where it has no opponent.
+fn waiting(moves: &[Move]) -> Option<TeamId>
+    ensures { result ≡ waiting moves.now }
+{
+    let runner = last_drawn(moves)?;
+    if has_opponent(moves, runner) {
+        return None;
+    }
+    Some(runner)
+}
+
+/// The team that was drawn last.
+fn last_drawn(moves: &[Move]) -> Option<TeamId>
+    ensures { result ≡ last_drawn moves.now }
+{
+    let mut last = None;
+    for step in moves {
+        if let Move::Drawn(team) = *step {
+            last = Some(team);
+        }
+    }
+    last
+}
+
+/// Whether the runner-up has an opponent.
+fn has_opponent(moves: &[Move], runner: TeamId) -> bool
+    ensures { result ≡ has_opponent runner moves.now }
+{
+    for step in moves {
+        if let Move::Paired(other, _) = *step {
+            if other == runner {
+                return true;
+            }
+        }
+    }
+    false
+}
+
+/// Whether the team was drawn.
+pub(crate) fn is_drawn(moves: &[Move], team: TeamId) -> bool
+    ensures { result ≡ is_drawn team moves.now }
+{
+    for step in moves {
+        if let Move::Drawn(other) = *step {
+            if other == team {
+                return true;
+            }
+        }
+    }
+    false
+}
+
+/// Whether the winner is paired.
+pub(crate) fn is_paired(moves: &[Move], winner: TeamId) -> bool
+    ensures { result ≡ is_paired winner moves.now }
+{
+    for step in moves {
+        if let Move::Paired(_, other) = *step {
+            if other == winner {
+                return true;
+            }
+        }
+    }
+    false
+}
+
+/// Whether some runner-up was not drawn.
+fn has_undrawn(file: &DrawFile, moves: &[Move]) -> bool
+    ensures yes { result ≡ true → undrawn file.now moves.now ≢ [] }
+    ensures no { result ≡ false → undrawn file.now moves.now ≡ [] }
+{
+    let teams = file.teams();
+    for place in 0..teams.number() {
+        let id = TeamId(place);
+        if teams.get(id).pot == 2 && !is_drawn(moves, id) {
+            return true;
+        }
+    }
+    false
+}
