@@ -1,8 +1,9 @@
 -- The rules of a file are well formed.
-use Rattle.std.proofs.Common.{◌≡◌, ℕ, ◌*◌, ◌<◌, ◌≤◌, true, not, List, [], ◌∷◌, ◌++◌, length, map, refl, sym, ap, ◌∙◌, arith, length-append}
+use Rattle.std.proofs.Common.{◌≡◌, ℕ, ◌+◌, ◌*◌, ◌<◌, ◌≤◌, true, not, List, [], ◌∷◌, ◌++◌, length, map, refl, sym, ap, ◌∙◌, arith, length-append}
 use Rattle.std.specs.List.{range_with_len, enumerate_from, flat_map, AllByRecursion as Each}
 use Rattle.std.proofs.lemmas.List.FromFn.{length-map-range_with_len}
 use Rattle.team_files.specs.declared.team_id.TeamId.{TeamId}
+use Rattle.team_files.specs.Heads.{most_teams}
 use Rattle.rule_sets.specs.Files.{DrawFile}
 use Rattle.rule_sets.specs.Forms.{HasForm}
 use Rattle.count_core.specs.declared.lit.Lit.{Lit}
@@ -67,7 +68,7 @@ module _ (file : DrawFile) (rs ws : List TeamId) where
   rules = each_append (IsWellFormedRule (length rs * length ws)) (map (row_rule (length ws)) (range_with_len 0 (length rs))) (map (column_rule (length rs) (length ws)) (range_with_len 0 (length ws)) ++ flat_map (bans_of file ws) (enumerate_from 0 rs)) rows
       (each_append (IsWellFormedRule (length rs * length ws)) (map (column_rule (length rs) (length ws)) (range_with_len 0 (length ws))) (flat_map (bans_of file ws) (enumerate_from 0 rs)) columns bans)
 
-  number : length rs ≤ 40 → length ws ≤ 40 → length (rules_between file rs ws) ≤ 1680
+  number : length rs ≤ most_teams → length ws ≤ most_teams → length (rules_between file rs ws) ≤ most_teams + most_teams + most_teams * most_teams
   number few_r few_w =
       let a = length-append (map (row_rule (length ws)) (range_with_len 0 (length rs))) (map (column_rule (length rs) (length ws)) (range_with_len 0 (length ws)) ++ flat_map (bans_of file ws) (enumerate_from 0 rs)) in
       let b = length-append (map (column_rule (length rs) (length ws)) (range_with_len 0 (length ws))) (flat_map (bans_of file ws) (enumerate_from 0 rs)) in
@@ -77,8 +78,8 @@ module _ (file : DrawFile) (rs ws : List TeamId) where
       let f = small_product (length rs) (length ws) few_r few_w in
       omega arith
 
-pub few_teams : (file : DrawFile) (pot : ℕ) → HasForm file → length (teams_of_pot pot file) ≤ 40
-few_teams file pot form = omega (arith, pot_length pot 0 file.teams, form.few_teams)
+pub few_teams : (file : DrawFile) (pot : ℕ) → HasForm file → length (teams_of_pot pot file) ≤ most_teams
+few_teams file pot form = omega (arith, pot_length pot 0 file.teams, form.common.few_teams)
 
 pub rules_formed : (file : DrawFile) → HasForm file → IsWellFormed (rules_of file)
 rules_formed file form = record {

@@ -5,10 +5,10 @@ pub mod Tables
 pub mod Whole
 pub mod Picking
 pub mod Drawing
-pub mod Decide
 pub mod Numbers
 pub mod Pieces
 pub mod Formed
 pub mod StateMoves
 pub mod Satisfying
 pub mod Reading
+pub mod Existence

@@ -4,6 +4,7 @@ use Rattle.std.specs.Prelude.{count_by}
 use Rattle.std.specs.List.{range_with_len, AllByRecursion as Each}
 use Rattle.std.proofs.Math.Nat.{mul-le-mul_left}
 use Rattle.std.proofs.lemmas.List.FromFn.{map-range_with_len_more}
+use Rattle.team_files.specs.Heads.{most_teams}
 use Rattle.count_core.proofs.Lists.{count_cons}
 
 -- ---- atoms
@@ -13,9 +14,9 @@ atom_within m n r w in_m in_n =
     let h : n * (r + 1) ≤ n * m = mul-le-mul_left n (omega arith) in
     omega arith
 
-pub small_product : (m n : ℕ) → m ≤ 40 → n ≤ 40 → m * n ≤ 1600
+pub small_product : (m n : ℕ) → m ≤ most_teams → n ≤ most_teams → m * n ≤ most_teams * most_teams
 small_product m n few_m few_n =
-    let h : m * n ≤ m * 40 = mul-le-mul_left m few_n in
+    let h : m * n ≤ m * most_teams = mul-le-mul_left m few_n in
     omega arith
 
 rows_apart : (n r s w v : ℕ) → r < s → w < n → r * n + w ≡ s * n + v → ⊥

@@ -1,6 +1,7 @@
 -- A table that is read off values that satisfy the rules is legal and extends the moves.
 use Rattle.std.proofs.Common.{◌≡◌, ℕ, zero, suc, ◌+◌, ◌<◌, Bool, true, false, cond, not, List, [], ◌∷◌, ◌++◌, length, map, Some, slice_get, refl, sym, ap, ◌∙◌, arith, ◌⊎◌, inl, inr, length-append}
 use Rattle.std.specs.List.{range_with_len, enumerate_from, flat_map, AllByRecursion as Each}
+use Rattle.team_files.specs.declared.kind.Kind.{Kind}
 use Rattle.team_files.specs.declared.team_id.TeamId.{TeamId}
 use Rattle.rule_sets.specs.Files.{DrawFile}
 use Rattle.count_core.specs.declared.lit.Lit.{Lit}
@@ -11,14 +12,14 @@ use Rattle.draw_tables.specs.declared.moves.Move.TheVariants.{Drawn, Paired}
 use Rattle.draw_tables.specs.Pots.{winners, runners_up, AreTeamsOf}
 use Rattle.draw_tables.specs.Pairings.{may_meet, GivesOpponent, IsLegalPairing}
 use Rattle.draw_tables.specs.States.{IsState}
-use Rattle.draw_tables.specs.Offers.{Extends, IsCompletable}
+use Rattle.draw_tables.specs.Offers.{Extends}
 use Rattle.pairing_draw.specs.Encoding.{IsRead, atom_of, pair_lit, never, exactly_one, row_rule, column_rule, bans_of, rules_of, place_of, lits_of_moves}
-use Rattle.pairing_draw.specs.Correspondence.{Meets}
+use Rattle.pairing_draw.specs.Correspondence.{ValuesComplete}
 use Rattle.pairing_draw.proofs.Distinct.{pot_once, pot_team}
 use Rattle.pairing_draw.proofs.Numbers.{OneBelow, below_one, below_each}
 use Rattle.pairing_draw.proofs.Pieces.{each_split, place_of_each, joined_each, place_found}
 use Rattle.pairing_draw.proofs.StateMoves.{IsKnown, state_known}
-use Rattle.pairing_draw.proofs.Tables.{entry, within, same_entry, rules_kept}
+use Rattle.pairing_draw.proofs.Tables.{entry, within, same_entry, rules_kept, pair_table}
 
 -- ---- what a satisfied rule says
 
@@ -108,7 +109,7 @@ module _ (file : DrawFile) (values : List Bool) (satisfied : Satisfies values (r
           (rules_kept file r w a.0 b.0 a.1 b.1 (meets r w gives)).2;
     }
 
-    extended : (ms : List Move) → Each (IsKnown file) ms → SatisfiesQuestion values (lits_of_moves file ms) → Extends file table ms
+    extended : (ms : List Move) → Each (IsKnown file) ms → SatisfiesQuestion values (lits_of_moves file ms) → Extends file (pair_table table) ms
     extended [] h g = tt
     extended (Drawn t ∷ ms) h g = (tt, extended ms h.1 g)
     extended (Paired r w ∷ ms) h g =
@@ -118,8 +119,8 @@ module _ (file : DrawFile) (values : List Bool) (satisfied : Satisfies values (r
           extended ms h.1 g.1,
         )
 
-    pub extends : (ms : List Move) → IsState file ms → SatisfiesQuestion values (lits_of_moves file ms) → Extends file table ms
-    extends ms state g = extended ms (state_known file ms state) g
+    pub extends : (ms : List Move) → file.kind ≡ Kind.Pairing → IsState file ms → SatisfiesQuestion values (lits_of_moves file ms) → Extends file (pair_table table) ms
+    extends ms kind state g = extended ms (state_known file kind ms state) g
 
 -- ---- there is a table that is read off
 
@@ -142,10 +143,10 @@ some_read values m ws h =
     (given.0, (w.0, given.1, w.2)))
     in (made.0, record { size = made.1; atoms = made.2 })
 
-pub values_complete : (file : DrawFile) (ms : List Move) (values : List Bool) → IsState file ms → Meets file ms values → IsCompletable file ms
-values_complete file ms values state meets =
+pub values_complete : ValuesComplete
+values_complete file ms values kind state meets =
     let table = some_read values (length (runners_up file)) (winners file) (row_true file values meets.rules) in
-    (table.0, legal file values meets.rules table.0 table.1, extends file values meets.rules table.0 table.1 ms state meets.moves)
+    (pair_table table.0, (kind, legal file values meets.rules table.0 table.1), extends file values meets.rules table.0 table.1 ms kind state meets.moves)
 
 -- a table that is read off gives teams of the file
 known : (file : DrawFile) (ws : List TeamId) (k : ℕ) (x : TeamId) → AreTeamsOf file ws → slice_get ws k ≡ Some x → x.0 < length file.teams

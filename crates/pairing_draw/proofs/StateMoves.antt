@@ -1,9 +1,11 @@
 -- The pairs of a state: a runner-up and a winner of the file, and no winner twice.
-use Rattle.std.proofs.Common.{◌≡◌, ℕ, zero, suc, ◌+◌, ◌*◌, ◌<◌, Bool, true, false, cond, not, List, [], ◌∷◌, ◌++◌, length, map, Option, Some, None, slice_get, ◌⊎◌, inl, inr, refl, sym, ap, ◌∙◌, subst}
-use Rattle.std.specs.Prelude.{filter, ◌==◌, ◌||◌}
+use Rattle.std.proofs.Common.{◌≡◌, ℕ, ◌+◌, ◌*◌, ◌<◌, Bool, true, false, not, List, [], ◌∷◌, ◌++◌, length, Option, Some, None, slice_get, ◌⊎◌, inl, inr, refl, sym, ap, ◌∙◌, subst}
+use Rattle.std.specs.Prelude.{◌==◌, ◌||◌, option_and_then}
 use Rattle.std.specs.List.{list_any, AllByRecursion as Each}
 use Rattle.std.specs.Option.{option_or}
+use Rattle.team_files.specs.declared.kind.Kind.{Kind}
 use Rattle.team_files.specs.declared.team_id.TeamId.{TeamId}
+use Rattle.team_files.specs.Members.{where_true}
 use Rattle.rule_sets.specs.Files.{DrawFile}
 use Rattle.count_core.specs.Problems.{mentions, repeats, are_within}
 use Rattle.count_core.proofs.Lists.{each_push}
@@ -13,9 +15,10 @@ use Rattle.draw_tables.specs.declared.moves.Move.TheVariants.{Drawn, Paired}
 use Rattle.draw_tables.specs.declared.moves.Choice.{Choice}
 use Rattle.draw_tables.specs.declared.moves.Choice.TheVariants.{Team}
 use Rattle.draw_tables.specs.Pots.{winners, runners_up, IsAmong}
-use Rattle.draw_tables.specs.States.{last_drawn, drawn_team, waiting, has_opponent, undrawn, is_drawn, is_paired, pairs_winner, phase_of, phase_with, candidate_teams_in, move_of, IsCandidateMove, AreMovesAfter, IsState}
-use Rattle.team_files.specs.Members.{where_true}
-use Rattle.std.specs.Prelude.{option_and_then}
+use Rattle.draw_tables.specs.PairingPhases.{last_drawn, drawn_team, waiting, has_opponent, undrawn, unpaired, is_drawn, is_paired, pairs_winner, phase_with}
+use Rattle.draw_tables.specs.States.{candidates_in, move_in, IsCandidateMove, AreMovesAfter, IsState}
+use Rattle.draw_tables.proofs.Among.{among_kept, among_choices}
+use Rattle.draw_tables.proofs.StateMoves.{phase_of_pairing}
 use Rattle.pairing_draw.specs.Encoding.{pair_lit, place_of, lits_of_moves}
 use Rattle.pairing_draw.proofs.Numbers.{atom_within, same_atom}
 use Rattle.pairing_draw.proofs.Pieces.{place_found}
@@ -26,25 +29,6 @@ either true = inl refl
 either false = inr refl
 
 -- ---- lists
-
--- what passes a filter stands in the list and passes
-among_filter : {A : Type 0} (p : A → Bool) (xs : List A) (x : A) → IsAmong (filter p xs) x → IsAmong xs x × (p x ≡ true)
-among_filter p [] x h = absurd (none h.0 h.1)
-  where
-    none : (k : ℕ) → slice_get [] k ≡ Some x → ⊥
-    none k e = cc
-among_filter {A} p (y ∷ xs) x h = by_cases (either (p y)) h (among_filter p xs x)
-  where
-    shift : IsAmong xs x × (p x ≡ true) → IsAmong (y ∷ xs) x × (p x ≡ true)
-    shift r = ((suc r.0.0, r.0.1), r.1)
-
-    front : p y ≡ true → (k : ℕ) → slice_get (y ∷ filter p xs) k ≡ Some x → (IsAmong (filter p xs) x → IsAmong xs x × (p x ≡ true)) → IsAmong (y ∷ xs) x × (p x ≡ true)
-    front is zero e rest = let s : y ≡ x = cc in ((0, e), ap p (sym s) ∙ is)
-    front is (suc k) e rest = shift (rest (k, e))
-
-    by_cases : (p y ≡ true) ⊎ (p y ≡ false) → IsAmong (cond (p y) (y ∷ filter p xs) (filter p xs)) x → (IsAmong (filter p xs) x → IsAmong xs x × (p x ≡ true)) → IsAmong (y ∷ xs) x × (p x ≡ true)
-    by_cases (inl is) g rest = let f : IsAmong (y ∷ filter p xs) x = rw is at g in front is f.0 f.1 rest
-    by_cases (inr isnt) g rest = let f : IsAmong (filter p xs) x = rw isnt at g in shift (rest f)
 
 any_more : {A : Type 0} (p : A → Bool) (xs ys : List A) → list_any p xs ≡ true → list_any p (xs ++ ys) ≡ true
 any_more p [] ys e = cc
@@ -69,7 +53,13 @@ abbrev pub IsKnown : DrawFile → Move → Type 0
 IsKnown file (Drawn t) = IsAmong (runners_up file) t
 IsKnown file (Paired r w) = IsAmong (runners_up file) r × IsAmong (winners file) w
 
-module _ (file : DrawFile) where
+-- each winner is paired once
+abbrev pub Apart : List Move → Type 0
+Apart [] = Unit {0}
+Apart (Drawn t ∷ ms) = Apart ms
+Apart (Paired r w ∷ ms) = (is_paired w ms ≡ false) × Apart ms
+
+module _ (file : DrawFile) (kind : file.kind ≡ Kind.Pairing) where
   last_known : (ms : List Move) (t : TeamId) → Each (IsKnown file) ms → last_drawn ms ≡ Some t → IsAmong (runners_up file) t
   last_known [] t h e = cc
   last_known (m ∷ ms) t h e = by_cases (last_drawn ms) refl m h.0 e (last_known ms t h.1)
@@ -95,37 +85,32 @@ module _ (file : DrawFile) where
     known : IsKnown file m
     fresh : (w : TeamId) → pairs_winner w m ≡ true → is_paired w before ≡ false
 
-  in_phase : (before : List Move) → Each (IsKnown file) before → (o : Option TeamId) → waiting before ≡ o → (left : List TeamId) → undrawn file before ≡ left → (t : TeamId)
-      → IsAmong (candidate_teams_in file before (phase_with o left)) t → IsNext before (move_of (phase_with o left) (Team t))
-  in_phase before h None is [] are t among = absurd (none among.0 among.1)
+  in_phase : (before : List Move) → Each (IsKnown file) before → (o : Option TeamId) → waiting before ≡ o → (left : List TeamId) → undrawn file before ≡ left
+      → (c : Choice) (m : Move) → IsAmong (candidates_in file before (phase_with o left)) c → move_in (phase_with o left) c ≡ Some m → IsNext before m
+  in_phase before h None is [] are c m among e = absurd (none among.0 among.1)
     where
-      none : (k : ℕ) → slice_get [] k ≡ Some t → ⊥
+      none : (k : ℕ) → slice_get [] k ≡ Some c → ⊥
       none k e = cc
-  in_phase before h None is (x ∷ xs) are t among = record {
-    known = (among_filter (λ r. not (is_drawn r before)) (runners_up file) t among).0;
-    fresh = λ w e. cc;
-  }
-  in_phase before h (Some r) is left are t among =
-      let found = among_filter (λ w. not (is_paired w before)) (winners file) t among in
-      record {
-        known = (last_known before r h (wait_last before r is), found.0);
-        fresh = λ w e. off (is_paired w before) (ap (λ x. not (is_paired x before)) (same_id w t (sym (is_equal t.0 w.0 e))) ∙ found.1);
-      }
+  in_phase before h None is (x ∷ xs) are (Team t) m among e =
+      let found = among_kept (λ r. not (is_drawn r before)) (runners_up file) t (among_choices (undrawn file before) t among) in
+      subst (IsNext before) (same_entry (Drawn t) m e) (record { known = found.1; fresh = λ w d. cc })
+  in_phase before h (Some r) is left are (Team t) m among e =
+      let found = among_kept (λ w. not (is_paired w before)) (winners file) t (among_choices (unpaired file before) t among) in
+      subst (IsNext before) (same_entry (Paired r t) m e) (record {
+        known = (last_known before r h (wait_last before r is), found.1);
+        fresh = λ w d. off (is_paired w before) (ap (λ x. not (is_paired x before)) (same_id w t (sym (is_equal t.0 w.0 d))) ∙ found.0);
+      })
     where
       off : (b : Bool) → not b ≡ true → b ≡ false
       off true e = cc
       off false e = refl
 
   next_is : (before : List Move) (m : Move) → Each (IsKnown file) before → IsCandidateMove file before m → IsNext before m
-  next_is before m h c = subst (IsNext before) (sym c.2) (by_choice c.0 c.1)
-    where
-      team_found : (ts : List TeamId) (t : TeamId) (k : ℕ) → slice_get (map (λ x. Team x) ts) k ≡ Some (Team t) → slice_get ts k ≡ Some t
-      team_found [] t k e = cc
-      team_found (x ∷ xs) t zero e = cc
-      team_found (x ∷ xs) t (suc k) e = team_found xs t k e
-
-      by_choice : (x : Choice) → IsAmong (map (λ t. Team t) (candidate_teams_in file before (phase_of file before))) x → IsNext before (move_of (phase_of file before) x)
-      by_choice (Team t) among = in_phase before h (waiting before) refl (undrawn file before) refl t (among.0, team_found (candidate_teams_in file before (phase_of file before)) t among.0 among.1)
+  next_is before m h c =
+      let phase = phase_of_pairing file before kind in
+      in_phase before h (waiting before) refl (undrawn file before) refl c.0 m
+      (subst (λ p. IsAmong (candidates_in file before p) c.0) phase c.1.0)
+      (subst (λ p. move_in p c.0 ≡ Some m) phase c.1.1)
 
   known_after : (before ms : List Move) → Each (IsKnown file) before → AreMovesAfter file before ms → Each (IsKnown file) ms
   known_after before [] h g = tt
@@ -148,12 +133,6 @@ module _ (file : DrawFile) where
       by_cases (inl is) fresh rest = let s = fresh is in cc
       by_cases (inr isnt) fresh rest = rw isnt rest
 
-  -- each winner is paired once
-  abbrev pub Apart : List Move → Type 0
-  Apart [] = Unit {0}
-  Apart (Drawn t ∷ ms) = Apart ms
-  Apart (Paired r w ∷ ms) = (is_paired w ms ≡ false) × Apart ms
-
   apart_after : (before ms : List Move) → Each (IsKnown file) before → AreMovesAfter file before ms → Apart ms
   apart_after before [] h g = tt
   apart_after before (Drawn t ∷ ms) h g =
@@ -169,8 +148,9 @@ module _ (file : DrawFile) where
   pub state_apart : (ms : List Move) → IsState file ms → Apart ms
   state_apart ms h = apart_after [] ms tt h
 
-  -- ---- the literals of the moves
+-- ---- the literals of the moves
 
+module _ (file : DrawFile) where
   place_within : (t : TeamId) (xs : List TeamId) → IsAmong xs t → place_of t xs < length xs
   place_within t xs h = within xs (place_of t xs) t (place_found t xs h.0 h.1)
 
@@ -215,6 +195,6 @@ module _ (file : DrawFile) where
   lits_distinct (Drawn t ∷ ms) h g = lits_distinct ms h.1 g
   lits_distinct (Paired r w ∷ ms) h g = rw (other_atoms r w h.0.1 ms h.1 g.0) (lits_distinct ms h.1 g.1)
 
-pub are_questions : (file : DrawFile) (ms : List Move) → IsState file ms
+pub are_questions : (file : DrawFile) (ms : List Move) → file.kind ≡ Kind.Pairing → IsState file ms
     → (are_within (length (runners_up file) * length (winners file)) (lits_of_moves file ms) ≡ true) × (repeats (lits_of_moves file ms) ≡ false)
-are_questions file ms h = let known = state_known file ms h in (lits_within file ms known, lits_distinct file ms known (state_apart file ms h))
+are_questions file ms kind h = let known = state_known file kind ms h in (lits_within file ms known, lits_distinct file ms known (state_apart file kind ms h))

@@ -8,6 +8,8 @@ use Rattle.std.proofs.lemmas.Option.{slice_get-map}
 use Rattle.team_files.specs.declared.team.Team.{Team}
 use Rattle.team_files.specs.declared.team_id.TeamId.{TeamId}
 use Rattle.rule_sets.specs.Files.{DrawFile}
+use Rattle.draw_tables.specs.declared.table.Table.{Table}
+use Rattle.draw_tables.specs.declared.table.Table.TheVariants.{Pairs}
 use Rattle.draw_tables.specs.Pots.{IsTeam}
 use Rattle.draw_tables.specs.Pairings.{may_meet, have_same_letter, have_common_tag, is_forbidden}
 
@@ -95,6 +97,12 @@ module _ (file : DrawFile) (r w : TeamId) (a b : Team) (is_r : IsTeam file r a) 
 
   pub may_meet_by : have_same_letter a b ≡ false → have_common_tag a b ≡ false → is_forbidden file r w ≡ false → may_meet file r w ≡ true
   may_meet_by letters tags pairs = meets ∙ all_not (have_same_letter a b) (have_common_tag a b) (is_forbidden file r w) letters tags pairs
+
+-- ---- tables
+
+-- the table of a pairing that gives these winners
+abbrev pub pair_table : List TeamId → Table
+pair_table given = Pairs (record { winners = given })
 
 -- ---- a table's ranks
 

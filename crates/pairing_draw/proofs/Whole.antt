@@ -4,24 +4,26 @@ use Rattle.std.specs.Prelude.{◌==◌, replicate}
 use Rattle.std.specs.List.{list_all, list_any}
 use Rattle.std.proofs.lemmas.Bool.{and_parts, and_from}
 use Rattle.std.proofs.lemmas.List.{length-map}
+use Rattle.team_files.specs.declared.kind.Kind.{Kind}
 use Rattle.team_files.specs.declared.team_id.TeamId.{TeamId}
 use Rattle.rule_sets.specs.Files.{DrawFile}
 use Rattle.draw_tables.specs.declared.moves.Move.{Move}
 use Rattle.draw_tables.specs.declared.moves.Move.TheVariants.{Drawn, Paired}
+use Rattle.draw_tables.specs.declared.table.Table.TheVariants.{Pairs}
 use Rattle.draw_tables.specs.Pots.{winners, runners_up}
 use Rattle.draw_tables.specs.Pairings.{GivesOpponent, IsLegalPairing, may_meet}
 use Rattle.draw_tables.specs.Offers.{Extends, IsCompletable}
 use Rattle.pairing_draw.specs.Search.{Finishes, allows, fits, grid_of, names_runner, row_of}
 use Rattle.pairing_draw.proofs.Distinct.{pot_once, pot_team}
 use Rattle.pairing_draw.proofs.Ranks.{Ranked, ranked, finishes, free_within, within_free}
-use Rattle.pairing_draw.proofs.Tables.{HasRanks, any_at, any_found, entry, equal, is_equal, map_at, may_meet_by, rank_at, ranks_of, rules_kept, same_entry, same_id, table_of, then_so, where_so, within}
+use Rattle.pairing_draw.proofs.Tables.{HasRanks, any_at, any_found, entry, equal, is_equal, map_at, may_meet_by, pair_table, rank_at, ranks_of, rules_kept, same_entry, same_id, table_of, then_so, where_so, within}
 
 -- ---- moves
 
 -- a table whose pairs the moves allow extends them
 extends : (file : DrawFile) (table : List TeamId) (ms : List Move) → length table ≡ length (runners_up file) → list_all (names_runner (runners_up file)) ms ≡ true
     → ((i : ℕ) (r w : TeamId) → slice_get (runners_up file) i ≡ Some r → slice_get table i ≡ Some w → list_all (allows r w) ms ≡ true)
-    → Extends file table ms
+    → Extends file (pair_table table) ms
 extends file table [] size named h = tt
 extends file table (Drawn t ∷ ms) size named h = (tt, extends file table ms size named (λ i r w e f. h i r w e f))
 extends file table (Paired s v ∷ ms) size named h =
@@ -36,7 +38,7 @@ extends file table (Paired s v ∷ ms) size named h =
     )
 
 -- the moves allow the pairs of a table that extends them
-allowed : (file : DrawFile) (table : List TeamId) (ms : List Move) → Extends file table ms → (i : ℕ) (r w : TeamId) → slice_get (runners_up file) i ≡ Some r → slice_get table i ≡ Some w → list_all (allows r w) ms ≡ true
+allowed : (file : DrawFile) (table : List TeamId) (ms : List Move) → Extends file (pair_table table) ms → (i : ℕ) (r w : TeamId) → slice_get (runners_up file) i ≡ Some r → slice_get table i ≡ Some w → list_all (allows r w) ms ≡ true
 allowed file table [] h i r w e f = refl
 allowed file table (Drawn t ∷ ms) h i r w e f = allowed file table ms h.1 i r w e f
 allowed file table (Paired s v ∷ ms) h i r w e f = and_from (allows r w (Paired s v)) (list_all (allows r w) ms) (where_so (s.0 == r.0) (v.0 == w.0) same) (allowed file table ms h.1 i r w e f)
@@ -48,11 +50,15 @@ allowed file table (Paired s v ∷ ms) h i r w e f = and_from (allows r w (Paire
         let given : slice_get table i ≡ Some v = rw (← place) h.0.2 in
         equal v.0 w.0 (ap (λ t. t.0) (same_entry v w (sym given ∙ f)))
 
--- moves that some table extends name runners-up
-pub named : (file : DrawFile) (table : List TeamId) (ms : List Move) → Extends file table ms → list_all (names_runner (runners_up file)) ms ≡ true
+-- moves that a table extends name runners-up
+named : (file : DrawFile) (table : List TeamId) (ms : List Move) → Extends file (pair_table table) ms → list_all (names_runner (runners_up file)) ms ≡ true
 named file table [] h = refl
 named file table (Drawn t ∷ ms) h = named file table ms h.1
 named file table (Paired s v ∷ ms) h = and_from (list_any (λ t. t.0 == s.0) (runners_up file)) (list_all (names_runner (runners_up file)) ms) (any_at s (runners_up file) h.0.0 h.0.1) (named file table ms h.1)
+
+-- moves that can be completed name runners-up
+pub names_runners : (file : DrawFile) (ms : List Move) → IsCompletable file ms → list_all (names_runner (runners_up file)) ms ≡ true
+names_runners file ms (Pairs pairs, legal, extended) = named file pairs.winners ms extended
 
 -- ---- from ranks to a table
 
@@ -92,20 +98,20 @@ module _ (file : DrawFile) (ms : List Move) (ks : List ℕ) (table : List TeamId
         (rules_kept file r w a.0 b.0 a.1 b.1 (pair_fits r w gives).0).2;
   }
 
-  completed : list_all (names_runner (runners_up file)) ms ≡ true → IsCompletable file ms
-  completed named = (table, legal, extends file table ms table_size named (λ i r w e f. (pair_fits r w (i, e, f)).1))
+  completed : file.kind ≡ Kind.Pairing → list_all (names_runner (runners_up file)) ms ≡ true → IsCompletable file ms
+  completed kind named = (pair_table table, (kind, legal), extends file table ms table_size named (λ i r w e f. (pair_fits r w (i, e, f)).1))
 
-pub completes : (file : DrawFile) (ms : List Move) → list_all (names_runner (runners_up file)) ms ≡ true
+pub completes : (file : DrawFile) (ms : List Move) → file.kind ≡ Kind.Pairing → list_all (names_runner (runners_up file)) ms ≡ true
     → (ks : List ℕ) × Finishes (grid_of file ms (winners file) (runners_up file)) (replicate (length (winners file)) false) ks
     → IsCompletable file ms
-completes file ms named h =
+completes file ms kind named h =
     let found = ranked (grid_of file ms (winners file) (runners_up file)) (replicate (length (winners file)) false) h.0 h.1 in
     let table = table_of (winners file) h.0 (λ i k e. free_within (length (winners file)) k (found.free i k e)) in
-    completed file ms h.0 table.0 found table.1 named
+    completed file ms h.0 table.0 found table.1 kind named
 
 -- ---- from a table to ranks
 
-module _ (file : DrawFile) (ms : List Move) (ks : List ℕ) (table : List TeamId) (legal : IsLegalPairing file table) (extended : Extends file table ms) (ranks : HasRanks (winners file) ks table) where
+module _ (file : DrawFile) (ms : List Move) (ks : List ℕ) (table : List TeamId) (legal : IsLegalPairing file table) (extended : Extends file (pair_table table) ms) (ranks : HasRanks (winners file) ks table) where
   fits_by : (i k : ℕ) (r w : TeamId) → slice_get (runners_up file) i ≡ Some r → slice_get table i ≡ Some w → slice_get (winners file) k ≡ Some w → fits file ms r w ≡ true
   fits_by i k r w e f g =
       let a = pot_team 2 file i r e in
@@ -142,6 +148,6 @@ module _ (file : DrawFile) (ms : List Move) (ks : List ℕ) (table : List TeamId
 pub none_completes : (file : DrawFile) (ms : List Move)
     → ((ks : List ℕ) → Finishes (grid_of file ms (winners file) (runners_up file)) (replicate (length (winners file)) false) ks → ⊥)
     → IsCompletable file ms → ⊥
-none_completes file ms none h =
-    let ranks = ranks_of (winners file) h.0 (λ i w e. h.1.nobody_else w (i, e)) in
-    none ranks.0 (finishes (grid_of file ms (winners file) (runners_up file)) (replicate (length (winners file)) false) ranks.0 (found_by file ms ranks.0 h.0 h.1 h.2 ranks.1))
+none_completes file ms none (Pairs pairs, legal, extended) =
+    let ranks = ranks_of (winners file) pairs.winners (λ i w e. legal.1.nobody_else w (i, e)) in
+    none ranks.0 (finishes (grid_of file ms (winners file) (runners_up file)) (replicate (length (winners file)) false) ranks.0 (found_by file ms ranks.0 pairs.winners legal.1 extended ranks.1))

@@ -11,6 +11,8 @@ use Rattle.count_core.specs.Problems.{Problem}
 use Rattle.count_core.specs.Assignments.{value_of}
 use Rattle.draw_tables.specs.declared.moves.Move.{Move}
 use Rattle.draw_tables.specs.declared.moves.Move.TheVariants.{Drawn, Paired}
+use Rattle.draw_tables.specs.declared.table.Table.{Table}
+use Rattle.draw_tables.specs.declared.table.Table.TheVariants.{Pairs}
 use Rattle.draw_tables.specs.Pots.{winners, runners_up}
 use Rattle.draw_tables.specs.Pairings.{may_meet}
 
@@ -60,15 +62,23 @@ rules_of file = record {
 
 -- ---- assignments of tables
 
--- The values of a table, which lists the winners given, runner-up by runner-up.
-abbrev pub values_of : DrawFile → List TeamId → List Bool
-values_of file table = flat_map (λ given. map (λ w. w.0 == given.0) (winners file)) table
+-- the values of the winners given, runner-up by runner-up
+abbrev pub values_of_winners : DrawFile → List TeamId → List Bool
+values_of_winners file given = flat_map (λ g. map (λ w. w.0 == g.0) (winners file)) given
 
--- The table gives each of m runners-up a winner whose atom is true.
-pub record IsRead (values : List Bool) (m : ℕ) (ws : List TeamId) (table : List TeamId) : Type 0 where
-  pub size : length table ≡ m
-  pub atoms : (r : ℕ) (given : TeamId) → slice_get table r ≡ Some given
-      → (w : ℕ) × (slice_get ws w ≡ Some given) × (value_of values (atom_of (length ws) r w) ≡ true)
+-- The values of a table.
+abbrev pub values_of : DrawFile → Table → List Bool
+values_of file (Pairs pairs) = values_of_winners file pairs.winners
+
+-- Each of m runners-up is given a winner whose atom is true.
+pub record IsRead (values : List Bool) (m : ℕ) (ws : List TeamId) (given : List TeamId) : Type 0 where
+  pub size : length given ≡ m
+  pub atoms : (r : ℕ) (winner : TeamId) → slice_get given r ≡ Some winner
+      → (w : ℕ) × (slice_get ws w ≡ Some winner) × (value_of values (atom_of (length ws) r w) ≡ true)
+
+-- The table gives each runner-up of the file a winner whose atom is true.
+abbrev pub IsReadTable : DrawFile → List Bool → Table → Type 0
+IsReadTable file values (Pairs pairs) = IsRead values (length (runners_up file)) (winners file) pairs.winners
 
 -- ---- literals of moves
 

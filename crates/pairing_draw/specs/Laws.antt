@@ -1,14 +1,13 @@
--- A state has one offer.
+-- A state of a pairing has an offer.
 use Rattle.std.specs.Prelude.{◌≡◌, List}
+use Rattle.team_files.specs.declared.kind.Kind.{Kind}
 use Rattle.rule_sets.specs.Files.{DrawFile}
 use Rattle.draw_tables.specs.declared.moves.Move.{Move}
 use Rattle.draw_tables.specs.declared.moves.Choice.{Choice}
+use Rattle.draw_tables.specs.States.{IsState}
 use Rattle.draw_tables.specs.Offers.{IsOffer}
 
--- Two offers of one state are the same.
-abbrev pub OneOffer : Type 0
-OneOffer = (file : DrawFile) (ms : List Move) (os qs : List Choice) → IsOffer file ms os → IsOffer file ms qs → os ≡ qs
-
--- Each state has an offer.
+-- Each state of a pairing has an offer.
 abbrev pub OfferExists : Type 0
-OfferExists = (file : DrawFile) (ms : List Move) → (os : List Choice) × IsOffer file ms os
+OfferExists = (file : DrawFile) (ms : List Move)
+    → file.kind ≡ Kind.Pairing → IsState file ms → (os : List Choice) × IsOffer file ms os

@@ -1,4 +1,4 @@
-ghost use Rattle.std.specs.Prelude.{◌≡◌, true, false, IfOk};
+ghost use Rattle.std.specs.Prelude.{◌≡◌, ◌↔◌, IfOk, IsTrue};
 ghost use Rattle.draw_tables.specs.Offers.{IsCompletable};
 
 use crate::grid::{all_name_runners, grid_of};
@@ -6,15 +6,16 @@ use crate::search::can_finish;
 use draw_tables::{Move, teams_of_pot};
 use rule_sets::DrawFile;
 use std::alloc::{AllocError, Global};
+use team_files::Kind;
 
-/// Whether some legal table extends the moves.
+/// Whether some legal table of a pairing extends the moves.
 pub(crate) fn is_completable(
     alloc: Global,
     file: &DrawFile,
     moves: &[Move],
 ) -> Result<bool, AllocError>
-    ensures yes { IfOk result (λ b. b ≡ true → IsCompletable file.now moves.now) }
-    ensures no { IfOk result (λ b. b ≡ false → IsCompletable file.now moves.now → ⊥) }
+    requires { file.now.kind ≡ Kind.Pairing }
+    ensures { IfOk result (λ b. IsTrue b ↔ IsCompletable file.now moves.now) }
 {
     let winners = teams_of_pot(alloc, file, 1)?;
     let runners = teams_of_pot(alloc, file, 2)?;

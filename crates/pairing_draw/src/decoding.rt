@@ -1,35 +1,35 @@
 ghost use Rattle.std.specs.Prelude.{◌≡◌, ℕ, ◌≤◌, ◌<◌, length, true, slice_get, Some, None, IfOk};
+ghost use Rattle.team_files.specs.Heads.{most_teams};
 ghost use Rattle.count_core.specs.Assignments.{Satisfies, SatisfiesQuestion, value_of};
 ghost use Rattle.draw_tables.specs.Offers.{Extends};
-ghost use Rattle.draw_tables.specs.Pots.{runners_up, winners};
 ghost use Rattle.draw_tables.specs.States.{IsState};
-ghost use Rattle.draw_tables.specs.Tables.{IsLegal, IsTableOf, opponents};
-ghost use Rattle.pairing_draw.specs.Encoding.{IsRead, atom_of, lits_of_moves, rules_of};
+ghost use Rattle.draw_tables.specs.Tables.{IsLegal, IsTableOf};
+ghost use Rattle.pairing_draw.specs.Encoding.{IsRead, IsReadTable, atom_of, lits_of_moves, rules_of};
 
 use crate::NoMemory;
 use crate::pots::pot_of;
 use draw_tables::{Move, PairTable, Table};
 use rule_sets::DrawFile;
 use std::alloc::Global;
-use team_files::TeamId;
+use team_files::{Kind, TeamId};
 
-/// The table of values that satisfy the rules of the file and make the literals of a state's moves
-/// true: it gives each runner-up the winner whose atom is true. It is a table of the file, is legal and
-/// extends the moves.
-/// Values are by atom from 0. The only error is want of memory.
+/// The table of values that satisfy the rules of a pairing's file and make the literals of a state's
+/// moves true: it gives each runner-up the winner whose atom is true. It is a table of the file, is
+/// legal and extends the moves. Values are by atom from 0. The only error is want of memory.
 pub fn decode(
     alloc: Global,
     file: &DrawFile,
     moves: &[Move],
     values: &[bool],
 ) -> Result<Table, NoMemory>
+    requires kind { file.now.kind ≡ Kind.Pairing }
     requires state { IsState file.now moves.now }
     requires rules { Satisfies values.now (rules_of file.now) }
     requires moves { SatisfiesQuestion values.now (lits_of_moves file.now moves.now) }
     ensures legal { IfOk result (λ table. IsLegal file.now table) }
     ensures of_file { IfOk result (λ table. IsTableOf file.now table) }
-    ensures extends { IfOk result (λ table. Extends file.now (opponents table) moves.now) }
-    ensures atoms { IfOk result (λ table. IsRead values.now (length (runners_up file.now)) (winners file.now) (opponents table)) }
+    ensures extends { IfOk result (λ table. Extends file.now table moves.now) }
+    ensures atoms { IfOk result (λ table. IsReadTable file.now values.now table) }
 {
     let winners = pot_of(alloc, file, 1)?;
     let runners = pot_of(alloc, file, 2)?;
@@ -44,8 +44,8 @@ fn read_rows(
     runners: usize,
     winners: &[TeamId],
 ) -> Result<Vec<TeamId>, NoMemory>
-    requires runners { runners ≤ 40 }
-    requires winners { length winners.now ≤ 40 }
+    requires runners { runners ≤ most_teams }
+    requires winners { length winners.now ≤ most_teams }
     requires each { (r : ℕ) → r < runners → (w : ℕ) × (w < length winners.now) × (value_of values.now (atom_of (length winners.now) r w) ≡ true) }
     ensures { IfOk result (λ given. IsRead values.now runners winners.now given.items) }
 {
@@ -58,8 +58,8 @@ fn read_rows(
 
 /// The first winner whose atom with the runner-up at a place is true.
 fn winner_of(values: &[bool], runner: usize, winners: &[TeamId]) -> Option<TeamId>
-    requires runner { runner ≤ 40 }
-    requires winners { length winners.now ≤ 40 }
+    requires runner { runner ≤ most_teams }
+    requires winners { length winners.now ≤ most_teams }
     ensures found { (given : TeamId) → result ≡ Some given → (w : ℕ) × (slice_get winners.now w ≡ Some given) × (value_of values.now (atom_of (length winners.now) runner w) ≡ true) }
     ensures none { result ≡ None → (w : ℕ) → w < length winners.now → value_of values.now (atom_of (length winners.now) runner w) ≡ true → ⊥ }
 {

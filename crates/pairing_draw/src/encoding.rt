@@ -1,5 +1,6 @@
 ghost use Rattle.std.specs.Prelude.{◌≡◌, ◌+◌, ◌*◌, ◌≤◌, ◌<◌, ◌^◌, ◌++◌, length, map, IfOk, OnOk};
 ghost use Rattle.std.specs.List.{range_with_len, enumerate_from, flat_map};
+ghost use Rattle.team_files.specs.Heads.{most_teams};
 ghost use Rattle.count_core.specs.Problems.{IsWellFormed};
 ghost use Rattle.draw_tables.specs.Pots.{AreTeamsOf};
 ghost use Rattle.pairing_draw.specs.Encoding.{bans_of, column_rule, exactly_one, never, pair_lit, row_rule, rules_between, rules_of};
@@ -12,7 +13,7 @@ use count_core::{CountRule, Lit, Lits, Problem};
 use draw_tables::may_meet;
 use rule_sets::DrawFile;
 use std::alloc::Global;
-use team_files::TeamId;
+use team_files::{Kind, TeamId};
 
 /// The count problem of a pairing file (this project's own numbering). Runners-up and winners are
 /// counted from 0, each in the file order of their pot; with n winners, the atom of runner-up r and
@@ -20,6 +21,7 @@ use team_files::TeamId;
 /// for each winner, one of its atoms is true; for each runner-up and each winner that it may not
 /// meet, their atom is not true. The only error is want of memory.
 pub fn encode(alloc: Global, file: &DrawFile) -> Result<Problem, NoMemory>
+    requires kind { file.now.kind ≡ Kind.Pairing }
     ensures { IfOk result (λ p. p ≡ rules_of file.now) }
 {
     let winners = pot_of(alloc, file, 1)?;
@@ -35,8 +37,8 @@ fn problem_between(
     runners: &[TeamId],
     winners: &[TeamId],
 ) -> Result<Problem, NoMemory>
-    requires few_runners { length runners.now ≤ 40 }
-    requires few_winners { length winners.now ≤ 40 }
+    requires few_runners { length runners.now ≤ most_teams }
+    requires few_winners { length winners.now ≤ most_teams }
     requires runners { AreTeamsOf file.now runners.now }
     requires winners { AreTeamsOf file.now winners.now }
     requires formed { IsWellFormed (record { atoms = length runners.now * length winners.now; rules = rules_between file.now runners.now winners.now }) }
@@ -78,8 +80,8 @@ fn add_rows(
     runners: usize,
     winners: usize,
 ) -> Result<(), NoMemory>
-    requires runners { runners ≤ 40 }
-    requires winners { winners ≤ 40 }
+    requires runners { runners ≤ most_teams }
+    requires winners { winners ≤ most_teams }
     ensures { OnOk result (rules.new.items ≡ rules.old.items ++ map (row_rule winners) (range_with_len 0 runners)) }
 {
     for runner in 0..runners {
@@ -91,8 +93,8 @@ fn add_rows(
 /// The rule that a runner-up gets one winner.
 #[tactic(auto, using(crate::proofs::Numbers::numbers_more))]
 fn row_rule(alloc: Global, winners: usize, runner: usize) -> Result<CountRule, NoMemory>
-    requires winners { winners ≤ 40 }
-    requires runner { runner ≤ 40 }
+    requires winners { winners ≤ most_teams }
+    requires runner { runner ≤ most_teams }
     ensures { IfOk result (λ rule. rule ≡ row_rule winners runner) }
 {
     let mut lits = Vec::new(alloc);
@@ -109,8 +111,8 @@ fn add_columns(
     runners: usize,
     winners: usize,
 ) -> Result<(), NoMemory>
-    requires runners { runners ≤ 40 }
-    requires winners { winners ≤ 40 }
+    requires runners { runners ≤ most_teams }
+    requires winners { winners ≤ most_teams }
     ensures { OnOk result (rules.new.items ≡ rules.old.items ++ map (column_rule runners winners) (range_with_len 0 winners)) }
 {
     for winner in 0..winners {
@@ -127,9 +129,9 @@ fn column_rule(
     winners: usize,
     winner: usize,
 ) -> Result<CountRule, NoMemory>
-    requires runners { runners ≤ 40 }
-    requires winners { winners ≤ 40 }
-    requires winner { winner ≤ 40 }
+    requires runners { runners ≤ most_teams }
+    requires winners { winners ≤ most_teams }
+    requires winner { winner ≤ most_teams }
     ensures { IfOk result (λ rule. rule ≡ column_rule runners winners winner) }
 {
     let mut lits = Vec::new(alloc);
@@ -147,8 +149,8 @@ fn add_bans(
     runners: &[TeamId],
     winners: &[TeamId],
 ) -> Result<(), NoMemory>
-    requires few_runners { length runners.now ≤ 40 }
-    requires few_winners { length winners.now ≤ 40 }
+    requires few_runners { length runners.now ≤ most_teams }
+    requires few_winners { length winners.now ≤ most_teams }
     requires runners { AreTeamsOf file.now runners.now }
     requires winners { AreTeamsOf file.now winners.now }
     ensures { OnOk result (rules.new.items ≡ rules.old.items ++ flat_map (bans_of file.now winners.now) (enumerate_from 0 runners.now)) }
@@ -168,8 +170,8 @@ fn add_bans_of(
     runner: TeamId,
     winners: &[TeamId],
 ) -> Result<(), NoMemory>
-    requires few { length winners.now ≤ 40 }
-    requires place { place ≤ 40 }
+    requires few { length winners.now ≤ most_teams }
+    requires place { place ≤ most_teams }
     requires runner { runner.0 < length file.now.teams }
     requires winners { AreTeamsOf file.now winners.now }
     ensures { OnOk result (rules.new.items ≡ rules.old.items ++ bans_of file.now winners.now (place, runner)) }
@@ -185,9 +187,9 @@ fn add_bans_of(
 
 /// The rule that a runner-up does not get a winner.
 fn never(alloc: Global, winners: usize, runner: usize, winner: usize) -> Result<CountRule, NoMemory>
-    requires winners { winners ≤ 40 }
-    requires runner { runner ≤ 40 }
-    requires winner { winner ≤ 40 }
+    requires winners { winners ≤ most_teams }
+    requires runner { runner ≤ most_teams }
+    requires winner { winner ≤ most_teams }
     ensures { IfOk result (λ rule. rule ≡ never (pair_lit winners runner winner)) }
 {
     let mut lits = Vec::new(alloc);

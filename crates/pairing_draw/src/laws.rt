@@ -1,11 +1,6 @@
-ghost use Rattle.pairing_draw.specs.Laws.{OfferExists, OneOffer};
+ghost use Rattle.pairing_draw.specs.Laws.{OfferExists};
 
-/// A state has at most one offer.
-pub fn law_one_offer()
-    ensures { OneOffer }
-{}
-
-/// Each state has an offer, be it an empty one.
+/// Each state of a pairing has an offer, be it an empty one. Does nothing.
 pub fn law_offer_exists()
     ensures { OfferExists }
 {}

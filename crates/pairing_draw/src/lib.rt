@@ -15,11 +15,11 @@ mod search;
 
 pub use correspondence::{
     law_completable_where_satisfied, law_rules_and_questions_are_formed, law_tables_satisfy,
-    law_values_complete,
+    law_values_complete, law_values_of_tables,
 };
 pub use decoding::decode;
 pub use encoding::encode;
-pub use laws::{law_offer_exists, law_one_offer};
+pub use laws::law_offer_exists;
 pub use literals::lits_of;
 pub use plain::plain_offer;
 pub use std::alloc::AllocError as NoMemory;

@@ -10,12 +10,13 @@ use count_core::Lit;
 use draw_tables::Move;
 use rule_sets::DrawFile;
 use std::alloc::Global;
-use team_files::TeamId;
+use team_files::{Kind, TeamId};
 
-/// The literals of a state's moves: for each pair of a runner-up and a winner, in order, that its
+/// The literals of the moves of a pairing's state: for each pair of a runner-up and a winner, in order, that its
 /// atom is true. The only error is want of memory.
 pub fn lits_of(alloc: Global, file: &DrawFile, moves: &[Move]) -> Result<Vec<Lit>, NoMemory>
-    requires { IsState file.now moves.now }
+    requires kind { file.now.kind ≡ Kind.Pairing }
+    requires state { IsState file.now moves.now }
     ensures literals { IfOk result (λ lits. lits.items ≡ lits_of_moves file.now moves.now) }
     ensures within { IfOk result (λ lits. are_within (rules_of file.now).atoms lits.items ≡ true) }
     ensures distinct { IfOk result (λ lits. repeats lits.items ≡ false) }

@@ -1,65 +1,67 @@
-ghost use Rattle.std.specs.Prelude.{◌≡◌, true, false, IfOk, map};
-ghost use Rattle.draw_tables.specs.declared.moves.Choice.{Choice};
-ghost use Rattle.draw_tables.specs.Pots.{AreTeamsOf};
+ghost use Rattle.std.specs.Prelude.{◌≡◌, ◌↔◌, IfOk, IsTrue};
 ghost use Rattle.draw_tables.specs.Offers.{IsOffer, IsPossible, Picks};
 
 use crate::completable::is_completable;
-use draw_tables::{Choice, Move, Phase, candidate_teams, move_of, phase_of};
+use draw_tables::{Choice, Move, Phase, candidates, move_of, phase_of};
 use rule_sets::DrawFile;
 use std::alloc::{AllocError, Global};
-use team_files::TeamId;
+use team_files::Kind;
 
-/// The offer after the moves: the teams of the possible candidates, in file order. It tries
-/// one-to-one maps from runners-up to winners, runner-up by runner-up, and leaves a branch as soon
-/// as a pair is forbidden.
+/// The offer after the moves of a pairing: its possible candidates, in order. It tries one-to-one
+/// maps from runners-up to winners, runner-up by runner-up, and leaves a branch as soon as a pair is
+/// forbidden.
 pub fn plain_offer(
     alloc: Global,
     file: &DrawFile,
     moves: &[Move],
-) -> Result<Vec<TeamId>, AllocError>
-    ensures offer { IfOk result (λ teams. IsOffer file.now moves.now (map (λ t. Choice.Team t) teams.items)) }
-    ensures teams { IfOk result (λ teams. AreTeamsOf file.now teams.items) }
+) -> Result<Vec<Choice>, AllocError>
+    requires kind { file.now.kind ≡ Kind.Pairing }
+    ensures offer { IfOk result (λ choices. IsOffer file.now moves.now choices.items) }
 {
-    let teams = candidate_teams(alloc, file, moves)?;
+    let choices = candidates(alloc, file, moves)?;
     let offered = match phase_of(file, moves) {
-        Phase::Opponent { runner: _ } => pick_possible(alloc, file, moves, &teams)?,
+        Phase::Opponent { runner: _ } => pick_possible(alloc, file, moves, &choices)?,
         // A drawn runner-up says nothing of the table, so all candidates have one answer.
-        _ if is_completable(alloc, file, moves)? => teams,
+        _ if is_completable(alloc, file, moves)? => choices,
         _ => Vec::new(alloc),
     };
     Ok(offered)
 }
 
-/// Those of the teams whose choice is possible, in order.
+/// Those of the choices that are possible, in order.
 fn pick_possible(
     alloc: Global,
     file: &DrawFile,
     moves: &[Move],
-    teams: &[TeamId],
-) -> Result<Vec<TeamId>, AllocError>
-    ensures { IfOk result (λ picked. Picks (λ t. IsPossible file.now moves.now (Choice.Team t)) teams.now picked.items) }
+    choices: &[Choice],
+) -> Result<Vec<Choice>, AllocError>
+    requires { file.now.kind ≡ Kind.Pairing }
+    ensures { IfOk result (λ picked. Picks (IsPossible file.now moves.now) choices.now picked.items) }
 {
     let mut picked = Vec::new(alloc);
-    for team in teams {
-        if !is_possible(alloc, file, moves, *team)? {
+    for choice in choices {
+        if !is_possible(alloc, file, moves, *choice)? {
             continue;
         }
-        picked.push(*team)?;
+        picked.push(*choice)?;
     }
     Ok(picked)
 }
 
-/// Whether some legal table extends the moves and the one that the team adds.
+/// Whether some legal table extends the moves and the one that the choice adds.
 fn is_possible(
     alloc: Global,
     file: &DrawFile,
     moves: &[Move],
-    team: TeamId,
+    choice: Choice,
 ) -> Result<bool, AllocError>
-    ensures yes { IfOk result (λ b. b ≡ true → IsPossible file.now moves.now (Choice.Team team)) }
-    ensures no { IfOk result (λ b. b ≡ false → IsPossible file.now moves.now (Choice.Team team) → ⊥) }
+    requires { file.now.kind ≡ Kind.Pairing }
+    ensures { IfOk result (λ b. IsTrue b ↔ IsPossible file.now moves.now choice) }
 {
+    let Some(step) = move_of(file, moves, choice) else {
+        return Ok(false);
+    };
     let mut tried = Vec::from_slice(alloc, moves)?;
-    tried.push(move_of(phase_of(file, moves), Choice::Team(team)))?;
+    tried.push(step)?;
     is_completable(alloc, file, &tried)
 }

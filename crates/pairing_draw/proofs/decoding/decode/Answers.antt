@@ -8,13 +8,13 @@ pub read_rows-requires-clause-each : goal.read_rows-requires-clause-each
 read_rows-requires-clause-each c = λ r lt. rw (c.deref.ensures.value, c.in_ok-winners.ensures.teams) (row_true c.args.file.now c.args.values.now c.requires.rules r (let size : c.len.result ≡ length (runners_up c.args.file.now) = rw (← c.in_ok-runners.ensures.teams) (search rules) in rw (← size) lt))
 
 pub returns-clause-legal : goal.returns-clause-legal
-returns-clause-legal c = legal c.args.file.now c.args.values.now c.requires.rules c.new.result.winners (search rules)
+returns-clause-legal c = (c.requires.kind, legal c.args.file.now c.args.values.now c.requires.rules c.new.result.winners (search rules))
 
 pub returns-clause-extends : goal.returns-clause-extends
-returns-clause-extends c = extends c.args.file.now c.args.values.now c.requires.rules c.new.result.winners (search rules) c.args.moves.now c.requires.state c.requires.moves
+returns-clause-extends c = extends c.args.file.now c.args.values.now c.requires.rules c.new.result.winners (search rules) c.args.moves.now c.requires.kind c.requires.state c.requires.moves
 
 pub returns-clause-of_file : goal.returns-clause-of_file
 returns-clause-of_file c =
     let read : IsRead c.args.values.now (length (runners_up c.args.file.now)) (winners c.args.file.now) c.new.result.winners = search rules in
     let teams = rw c.in_ok-winners.ensures.teams at c.in_ok-winners.ensures.within in
-    record { size = read.size; teams = read_teams c.args.file.now c.args.values.now (length (runners_up c.args.file.now)) (winners c.args.file.now) c.new.result.winners teams read }
+    record { kind = c.requires.kind; size = read.size; teams = read_teams c.args.file.now c.args.values.now (length (runners_up c.args.file.now)) (winners c.args.file.now) c.new.result.winners teams read }

@@ -2,7 +2,7 @@ use Rattle.pairing_draw.proofs.StateMoves.{are_questions}
 use Rattle.pairing_draw.proofs.literals.lits_of.Goals as goal
 
 pub returns-clause-within : goal.returns-clause-within
-returns-clause-within c = rw c.in_ok-lits.ensures (are_questions c.args.file.now c.args.moves.now c.requires).0
+returns-clause-within c = rw c.in_ok-lits.ensures (are_questions c.args.file.now c.args.moves.now c.requires.kind c.requires.state).0
 
 pub returns-clause-distinct : goal.returns-clause-distinct
-returns-clause-distinct c = rw c.in_ok-lits.ensures (are_questions c.args.file.now c.args.moves.now c.requires).1
+returns-clause-distinct c = rw c.in_ok-lits.ensures (are_questions c.args.file.now c.args.moves.now c.requires.kind c.requires.state).1
