@@ -12,7 +12,7 @@ use Rattle.draw_lines.specs.Inputs.{command_lines}
 use Rattle.draw_lines.specs.Words.{command_of}
 use Rattle.draw_lines.specs.Texts.{opening_text}
 use Rattle.draw_lines.specs.Answers.{replies_text, IsAnswer}
-use Rattle.pairing_draw.proofs.Offers.{offer_exists}
+use Rattle.pairing_draw.proofs.Existence.{offer_exists}
 use Rattle.draw_top.proofs.Gains.{both, excluded}
 use Rattle.draw_top.specs.Laws.{OneAnswer, AnswerExists, AnswerOrRefusal}
 

@@ -1,4 +1,5 @@
-pub mod Answering
+pub mod AnswerTexts
+pub mod Taken
 pub mod Gains
 pub mod Function
 pub mod Words

@@ -1,23 +1,14 @@
 ghost use Rattle.std.specs.Prelude.{◌≡◌, ◌≢◌, ◌≤◌, ◌⊎◌, IfOk, OnOk, true, false};
 ghost use Rattle.std.specs.Io.KnownBytes.{Appends, Keeps, IsAtEnd};
 ghost use Rattle.draw_ports.specs.Causes.{Rose, AppendsSome};
-ghost use Rattle.rule_sets.specs.Files.{IsFileOf};
-ghost use Rattle.draw_lines.specs.Inputs.{lines_of};
-ghost use Rattle.draw_lines.specs.Answers.{IsAnswer};
-ghost use Rattle.draw_lines.specs.Texts.{opening_text};
-ghost use Rattle.draw_state.specs.Commands.{next_line};
-ghost use Rattle.draw_tables.specs.States.{phase_of};
-ghost use Rattle.draw_tables.specs.Offers.{IsOffer};
-ghost use Rattle.draw_top.specs.Replies.{IsReplyTo};
 ghost use Rattle.draw_top.specs.Outputs.{IsOutputOf};
 ghost use Rattle.draw_top.specs.Follow.{words_of, IsFollow, usage_line, GainsAnswer, GainsRefusal, GainsPart, FitsLimit, PassesLimit, HoldsFile, HoldsNoFile, TellsTooMuch};
 
+use crate::answering::answer_text;
 use crate::heads::{INPUT_LIMIT, file_of_head, refusal_line};
 use crate::status::Status;
-use crate::turn::Turn;
-use draw_lines::{first_line, opening_text, read_line, reply_text, split_input};
+use draw_lines::split_input;
 use draw_ports::{PortFault, Sink, Source, put_all, read_all};
-use rule_sets::DrawFile;
 use std::alloc::{AllocError, Global};
 
 const USAGE: &[u8] = b"usage: draw follow|prove|room|trial N [--workers 1..16]\n";
@@ -31,48 +22,6 @@ fn is_follow(words: &[String]) -> bool
         [word] => word.as_str() == "follow",
         _ => false,
     }
-}
-
-/// The answer text of a file and the lines of these bytes.
-fn answer_text(alloc: Global, file: &DrawFile, commands: &[u8]) -> Result<Vec<u8>, AllocError>
-    ensures { IfOk result (λ text. IsAnswer file.now (lines_of commands.now) text.items) }
-{
-    let mut turn = Turn::open(alloc, file)?;
-    let mut text = opening(alloc, &turn)?;
-    let mut answered = 0;
-    let mut left = commands;
-    while let Some((line, after)) = first_line(left) {
-        let reply = answer_line(alloc, &mut turn, answered, line)?;
-        text.extend_from_slice(&reply)?;
-        answered += 1;
-        left = after;
-    }
-    Ok(text)
-}
-
-/// The opening of a turn.
-fn opening(alloc: Global, turn: &Turn) -> Result<Vec<u8>, AllocError>
-    ensures text { IfOk result (λ text. text.items ≡ opening_text turn.now.file (next_line (phase_of turn.now.file turn.now.moves) turn.now.offered)) }
-    ensures offer { IfOk result (λ _. IsOffer turn.now.file turn.now.moves turn.now.offered) }
-{
-    let next = turn.next(alloc)?;
-    let text = opening_text(alloc, turn.file(), &next)?;
-    Ok(text)
-}
-
-/// The reply to a line, where so many commands were `answered` before.
-fn answer_line(
-    alloc: Global,
-    turn: &mut Turn,
-    answered: u64,
-    line: &[u8],
-) -> Result<Vec<u8>, AllocError>
-    ensures reply { IfOk result (λ text. IsReplyTo turn.old turn.new answered line.now text.items) }
-    ensures file { turn.new.file ≡ turn.old.file }
-{
-    let reply = turn.answer(alloc, answered, read_line(line))?;
-    let text = reply_text(alloc, turn.file(), &reply)?;
-    Ok(text)
 }
 
 /// What is written for an input.

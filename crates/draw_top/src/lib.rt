@@ -1,6 +1,7 @@
 //! The top calls of the programs `draw` and `drawcheck`.
 #![tactic(auto)]
 
+mod answering;
 #[cfg(test)]
 mod check_tests;
 mod checking;

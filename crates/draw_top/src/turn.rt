@@ -1,5 +1,5 @@
 ghost use Rattle.std.specs.Prelude.{◌≡◌, [], ◌∷◌, ◌++◌, IfOk, OnErr, Ok};
-ghost use Rattle.draw_tables.specs.States.{IsCandidateMove};
+ghost use Rattle.draw_tables.specs.States.{IsCandidateMove, IsState};
 ghost use Rattle.draw_tables.specs.Offers.{IsOffer};
 ghost use Rattle.draw_state.specs.Runs.{IsNextLine, Step};
 ghost use Rattle.draw_state.specs.Replies.{IsNextOf, IsReplyOf};
@@ -7,8 +7,7 @@ ghost use Rattle.draw_state.specs.declared.replies.Refusal.{Refusal as RefusalVa
 ghost use Rattle.draw_state.specs.declared.replies.Reply.{Reply as ReplyValue};
 
 use draw_state::{
-    Choices, Command, Moves, NextLine, Reply, State, StateFault, judge_command,
-    law_replies_name_teams, next_line,
+    Choices, Command, Moves, NextLine, Reply, State, StateFault, judge_command, next_line,
 };
 use draw_tables::{Choice, Move};
 use pairing_draw::plain_offer;
@@ -75,7 +74,7 @@ impl Turn {
         ensures file { self.new.file ≡ self.old.file }
         ensures err { OnErr result (self.new ≡ self.old) }
     {
-        law_replies_name_teams();
+        expect_state(&self.state);
         let choice = match judge_command(&self.state, &self.offered, answered, command) {
             Ok(choice) => choice,
             Err(refusal) => return Ok(Reply::Refused(refusal)),
@@ -86,9 +85,9 @@ impl Turn {
         let Accepted {
             state,
             offered,
+            moves,
             next,
         } = accept(alloc, &self.state, added)?;
-        let moves = Moves::new(Vec::from_slice(alloc, &[added])?);
         self.state = state;
         self.offered = offered;
         Ok(Reply::Taken { moves, next })
@@ -100,6 +99,7 @@ impl Turn {
 struct Accepted {
     state: State,
     offered: Vec<Choice>,
+    moves: Moves,
     next: NextLine,
 }
 
@@ -109,14 +109,17 @@ fn accept(alloc: Global, before: &State, added: Move) -> Result<Accepted, AllocE
     ensures file { IfOk result (λ a. a.state.file ≡ before.now.file) }
     ensures moves { IfOk result (λ a. a.state.moves ≡ before.now.moves ++ added ∷ []) }
     ensures offer { IfOk result (λ a. IsOffer a.state.file a.state.moves a.offered.items) }
+    ensures added { IfOk result (λ a. a.moves ≡ added ∷ []) }
     ensures next { IfOk result (λ a. IsNextLine a.state.file a.state.moves a.next) }
 {
     let state = state_after(alloc, before, added)?;
     let offered = offer_of(alloc, &state)?;
     let next = next_after(alloc, &state, &offered)?;
+    let moves = Vec::from_slice(alloc, &[added])?;
     Ok(Accepted {
         state,
         offered,
+        moves: Moves::new(moves),
         next,
     })
 }
@@ -148,9 +151,18 @@ fn offer_of(alloc: Global, state: &State) -> Result<Vec<Choice>, AllocError>
 /// What comes next in a state whose offer this is.
 fn next_after(alloc: Global, state: &State, offered: &[Choice]) -> Result<NextLine, AllocError>
     requires { IsOffer state.now.file state.now.moves offered.now }
-    ensures { IfOk result (λ n. IsNextLine state.now.file state.now.moves n) }
+    ensures next { IfOk result (λ n. IsNextLine state.now.file state.now.moves n) }
+    ensures of_file { IfOk result (λ n. IsNextOf state.now.file n) }
 {
+    expect_state(state);
     let choices = Vec::from_slice(alloc, offered)?;
     let next = next_line(state, Choices::new(choices));
     Ok(next)
+}
+
+/// What the type of a state says of its moves. Does nothing.
+fn expect_state(state: &State)
+    ensures { IsState state.now.file state.now.moves }
+{
+    state.file();
 }
