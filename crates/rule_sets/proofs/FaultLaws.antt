@@ -31,6 +31,7 @@ use Rattle.rule_sets.specs.Forms.{HasCode}
 use Rattle.rule_sets.specs.BadPairs.{NamesNoPair, IsFirstBadPair}
 use Rattle.rule_sets.specs.FileFaults.{IsNoCode, NamesNoTwoCodes, IsFirstWrongPair, HasBadPair, HoldsOfValue, HoldsOfBytes, IsFirstFaultOfBytes, TellsFirstFaultOfBytes}
 use Rattle.rule_sets.proofs.FileForms.{all_coded}
+use Rattle.rule_sets.proofs.NamedPairLaws.{named_has}
 use Rattle.rule_sets.proofs.PairLaws.{tells_first_bad_pair}
 
 -- ---- a head has the codes and the pairs of its value
@@ -88,22 +89,14 @@ none_named teams text all = go (is_code text) refl
     go true is = finds_by_code.missing teams text
     go false is = ((λ _ place at. let code = code_there teams place text all at in let clash = sym code ∙ is in cc), λ _. refl)
 
--- the team that a text names has it as its code
-named_has : (teams : List Team) (text : List ℕ) (id : TeamId) → AreDifferent (codes_of teams) → team_named teams text ≡ Some id → HasCodeAt (codes_of teams) id.0 text
-named_has teams text id different e = go (is_code text) e
-  where
-    go : (b : Bool) → option_and_then (λ code. find code teams) (where_true b text) ≡ Some id → HasCodeAt (codes_of teams) id.0 text
-    go true h = (finds_by_code.found teams text id different).0 h
-    go false h = cc
-
 one_team : (teams : List Team) (a b : List ℕ) → AreCoded teams → team_named teams a ≡ team_named teams b → IsNoCode (codes_of teams) a ⊎ (a ≡ b)
 one_team teams a b coded e = go (team_named teams a) refl
   where
     go : (o : Option TeamId) → team_named teams a ≡ o → IsNoCode (codes_of teams) a ⊎ (a ≡ b)
     go None is = inl ((none_named teams a coded.0).0 is)
     go (Some id) is =
-        let one = named_has teams a id coded.1 is in
-        let two = named_has teams b id coded.1 (sym e ∙ is) in
+        let one = named_has teams a id is in
+        let two = named_has teams b id (sym e ∙ is) in
         let both : Some a ≡ Some b = sym one ∙ two in
         let same : a ≡ b = cc in
         inr same

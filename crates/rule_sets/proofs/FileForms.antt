@@ -1,5 +1,5 @@
 -- A well-formed draw file has its form: no fault of a head, and none of its pairs, holds of it.
-use Rattle.std.proofs.Common.{◌≡◌, ◌≢◌, ℕ, suc, eqb-true, ◌+◌, ◌<◌, ◌≤◌, ◌⊎◌, Bool, true, false, List, [], ◌∷◌, length, Option, Some, None, Result, Ok, Err, refl, sym, ◌∙◌, ap, subst, arith}
+use Rattle.std.proofs.Common.{◌≡◌, ◌≢◌, ℕ, suc, eqb-true, ◌+◌, ◌<◌, ◌≤◌, Bool, true, false, List, [], ◌∷◌, length, Option, Some, None, Result, Ok, Err, refl, sym, ◌∙◌, ap, subst, arith}
 use Rattle.std.specs.Prelude.{◌==◌, ◌&&◌, not, nat_le, bytes_eq, if◌then◌else◌, option_map, option_and_then, codes}
 use Rattle.std.specs.List.{All}
 use Rattle.std.proofs.lemmas.List.Elements.{All-nil, All-cons}
@@ -180,7 +180,7 @@ teams_size i (f ∷ fs) ts e =
 few_teams : (fields : HeadFields) → too_many_fault fields ≡ None → length fields.teams ≤ 40
 few_teams fields e = grind (arith, nat_tests)
 
-pairs_size : (teams : List Team) (i : ℕ) (ps : List HeadPair) (pairs : List Pair)
+pub pairs_size : (teams : List Team) (i : ℕ) (ps : List HeadPair) (pairs : List Pair)
     → pairs_from teams i ps ≡ Ok pairs → length pairs ≡ length ps
 pairs_size teams i [] pairs e = let none : pairs ≡ [] = cc in rw none refl
 pairs_size teams i (p ∷ ps) pairs e =
@@ -236,7 +236,7 @@ named_within teams text id e = go (is_code text) e
 unequal : (a b : ℕ) → (a == b) ≡ false → a ≢ b
 unequal a b e same = grind (arith, nat_tests)
 
-pair_is : (place : ℕ) (a b : Option TeamId) (p : Pair)
+pub pair_is : (place : ℕ) (a b : Option TeamId) (p : Pair)
     → pair_at place a b ≡ Ok p → (a ≡ Some p.first) × (b ≡ Some p.second) × (p.first.0 ≢ p.second.0)
 pair_is place None b p e = cc
 pair_is place (Some a) None p e = cc

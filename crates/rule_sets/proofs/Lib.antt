@@ -1,3 +1,4 @@
 pub mod FileForms
 pub mod PairLaws
 pub mod FaultLaws
+pub mod NamedPairLaws

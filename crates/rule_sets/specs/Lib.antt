@@ -1,4 +1,5 @@
 pub mod Files
 pub mod Forms
 pub mod BadPairs
+pub mod NamedPairs
 pub mod FileFaults

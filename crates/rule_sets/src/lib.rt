@@ -5,6 +5,7 @@ mod draw_file;
 mod limit;
 mod pair;
 mod place;
+mod reading;
 mod rules;
 #[cfg(test)]
 mod tests;
@@ -13,4 +14,8 @@ pub use draw_file::DrawFile;
 pub use limit::Limit;
 pub use pair::Pair;
 pub use place::Place;
-pub use rules::{law_files_have_form, law_first_bad_pair, law_first_fault_of_bytes, rules_from};
+pub use reading::read_file;
+pub use rules::{
+    law_files_have_form, law_files_have_pairs, law_first_bad_pair, law_first_fault_of_bytes,
+    rules_from,
+};

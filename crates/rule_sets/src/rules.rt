@@ -1,9 +1,11 @@
 ghost use Rattle.std.specs.Prelude.{◌≡◌, ◌≢◌, ◌≤◌, length, Ok, Err, IfOk, IfErr};
 ghost use Rattle.team_files.specs.Answers.{Gives};
+ghost use Rattle.team_files.specs.Heads.{most_pairs};
 ghost use Rattle.rule_sets.specs.Files.{file_of, team_named, pair_of, pairs_from};
 ghost use Rattle.rule_sets.specs.BadPairs.{TellsFirstBadPair};
 ghost use Rattle.rule_sets.specs.FileFaults.{TellsFirstFaultOfBytes};
 ghost use Rattle.rule_sets.specs.Forms.{FilesHaveForm};
+ghost use Rattle.rule_sets.specs.NamedPairs.{FilesHavePairs};
 
 use crate::draw_file::DrawFile;
 use crate::pair::Pair;
@@ -22,7 +24,7 @@ pub fn rules_from(alloc: Global, head: Head) -> Result<DrawFile, FileFault>
 
 /// The pairs that a head names, or the first that is none.
 fn pairs_of(alloc: Global, teams: &Teams, pairs: &[HeadPair]) -> Result<Vec<Pair>, FileFault>
-    requires few { length pairs.now ≤ 64 }
+    requires few { length pairs.now ≤ most_pairs }
     ensures ok { IfOk result (λ v. pairs_from teams.now 0 pairs.now ≡ Ok v.items) }
     ensures fault { IfErr result (λ f. f ≢ FileFault.NoMemory → pairs_from teams.now 0 pairs.now ≡ Err f) }
 {
@@ -68,6 +70,12 @@ pub fn law_files_have_form()
 /// both are one team's. Does nothing.
 pub fn law_first_bad_pair()
     ensures { TellsFirstBadPair }
+{}
+
+/// The file of a head has as many forbidden pairs, and at each place its pair names, first and second,
+/// the teams that have the codes of the head's pair. Does nothing.
+pub fn law_files_have_pairs()
+    ensures { FilesHavePairs }
 {}
 
 /// What the bytes of a head are refused for is the first fault that holds of them, in the order of

@@ -1,16 +1,15 @@
-use crate::{DrawFile, Limit, rules_from};
+use crate::{DrawFile, Limit, read_file};
 use std::alloc::{AllocError, Global};
 use std::process::Abort;
 use std::test::Fail;
-use team_files::{FileFault, Kind, Tag, Team, TeamId, read_head};
+use team_files::{FileFault, Kind, Tag, Team, TeamId};
 
 /// A head of two teams with forbidden pairs.
 fn file_with(alloc: Global, pairs: &str) -> Result<DrawFile, FileFault> {
     let head = format!(in alloc;
         r#"{{"kind":"pairing","pairs":[{pairs}],"teams":[{{"code":"AAA","pot":1,"tags":["X","Y"],"group":"A"}},{{"code":"BBB","name":"Bilbao","pot":2,"tags":["Z"],"group":"B"}}]}}"#
     )?;
-    let head = read_head(alloc, head.as_bytes())?;
-    rules_from(alloc, head)
+    read_file(alloc, head.as_bytes())
 }
 
 /// Lists of forbidden pairs, each behind the place of the first one that is none.

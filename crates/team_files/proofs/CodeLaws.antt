@@ -60,7 +60,7 @@ one_found code ts id different at = go (find code ts) refl
         let place : other.0 ≡ id.0 = omega (arith, t.1, same) in
         e ∙ ap (λ n. Some (record { 0 = n })) place
 
-stands : (code : List ℕ) (ts : List Team) (id : TeamId) → find code ts ≡ Some id → HasCodeAt (codes_of ts) id.0 code
+pub stands : (code : List ℕ) (ts : List Team) (id : TeamId) → find code ts ≡ Some id → HasCodeAt (codes_of ts) id.0 code
 stands code ts id e =
     let t = there code ts 0 id e in
     let place : t.0 ≡ id.0 = omega (arith, t.1) in

@@ -1,0 +1,52 @@
+-- The pairs of a file name the teams that have the codes of the head's pairs.
+use Rattle.std.proofs.Common.{◌≡◌, ℕ, zero, suc, ◌+◌, Bool, true, false, List, [], ◌∷◌, slice_get, Some, Ok, subst}
+use Rattle.std.specs.Prelude.{option_and_then}
+use Rattle.team_files.specs.declared.head_pair.HeadPair.{HeadPair}
+use Rattle.team_files.specs.declared.team.Team.{Team}
+use Rattle.team_files.specs.declared.team_id.TeamId.{TeamId}
+use Rattle.team_files.specs.Characters.{is_code}
+use Rattle.team_files.specs.Codes.{codes_of, HasCodeAt}
+use Rattle.team_files.specs.Members.{where_true}
+use Rattle.team_files.specs.Teams.{find}
+use Rattle.team_files.proofs.CodeLaws.{stands}
+use Rattle.team_files.proofs.HeadLaws.{gave}
+use Rattle.rule_sets.specs.declared.pair.Pair.{Pair}
+use Rattle.rule_sets.specs.Files.{team_named, pair_of, pairs_from, file_with}
+use Rattle.rule_sets.specs.NamedPairs.{NamesCodes, HasPairsOf, FilesHavePairs}
+use Rattle.rule_sets.proofs.FileForms.{pair_is, pairs_size}
+
+-- the team that a text names has it as its code
+pub named_has : (teams : List Team) (text : List ℕ) (id : TeamId) → team_named teams text ≡ Some id → HasCodeAt (codes_of teams) id.0 text
+named_has teams text id e = go (is_code text) e
+  where
+    go : (b : Bool) → option_and_then (λ code. find code teams) (where_true b text) ≡ Some id → HasCodeAt (codes_of teams) id.0 text
+    go true h = stands text teams id h
+    go false h = cc
+
+names_codes : (teams : List Team) (i : ℕ) (named : HeadPair) (pair : Pair) → pair_of teams i named ≡ Ok pair → NamesCodes (codes_of teams) named pair
+names_codes teams i named pair e =
+    let is = pair_is i (team_named teams named.first) (team_named teams named.second) pair e in
+    record { first = named_has teams named.first pair.first is.0; second = named_has teams named.second pair.second is.1 }
+
+each_names : (teams : List Team) (i : ℕ) (ps : List HeadPair) (pairs : List Pair) → pairs_from teams i ps ≡ Ok pairs
+    → (place : ℕ) (named : HeadPair) (pair : Pair) → slice_get ps place ≡ Some named → slice_get pairs place ≡ Some pair → NamesCodes (codes_of teams) named pair
+each_names teams i [] pairs e place named pair at here = cc
+each_names teams i (p ∷ ps) pairs e zero named pair at here =
+    let first = gave (pair_of teams i p) _ pairs e in
+    let rest = gave (pairs_from teams (i + 1) ps) _ pairs first.2 in
+    let all : pairs ≡ first.0 ∷ rest.0 = cc in
+    let own : Some first.0 ≡ Some pair = rw all at here in
+    let same : p ≡ named = cc in
+    let is : first.0 ≡ pair = cc in
+    names_codes teams i named pair (rw (← same) (rw (← is) first.1))
+each_names teams i (p ∷ ps) pairs e (suc k) named pair at here =
+    let first = gave (pair_of teams i p) _ pairs e in
+    let rest = gave (pairs_from teams (i + 1) ps) _ pairs first.2 in
+    let all : pairs ≡ first.0 ∷ rest.0 = cc in
+    each_names teams (i + 1) ps rest.0 rest.1 k named pair at (rw all at here)
+
+pub files_have_pairs : FilesHavePairs
+files_have_pairs head file e =
+    let made = gave (pairs_from head.teams 0 head.pairs) _ file e in
+    let is : file_with head made.0 ≡ file = cc in
+    subst (HasPairsOf head) is (record { number = pairs_size head.teams 0 head.pairs made.0 made.1; each = each_names head.teams 0 head.pairs made.0 made.1 })
