@@ -1,3 +1,7 @@
+ghost use Rattle.std.specs.Prelude.{◌≡◌, true, IfOk};
+ghost use Rattle.count_core.specs.Assignments.{makes_true, Satisfies, SatisfiesQuestion};
+ghost use Rattle.pairing_draw.specs.Encoding.{lits_of_moves, rules_of};
+
 use crate::tests::{ROUND_OF_16, TWO_TEAMS, file_of};
 use count_core::{Lit, Problem, satisfied};
 use draw_state::State;
@@ -6,20 +10,75 @@ use pairing_draw::{decode, encode, lits_of};
 use rule_sets::DrawFile;
 use std::alloc::{AllocError, Global};
 use std::test::Fail;
-use team_files::TeamId;
+use team_files::{Kind, TeamId};
 
 /// The places of the winners in their pot, runner-up by runner-up, as they were drawn in 2021/22.
 const DRAWN: [usize; 8] = [3, 5, 0, 1, 2, 7, 4, 6];
 
-/// The table that values make, where they satisfy the file's rules.
-fn decoded(alloc: Global, file: &DrawFile, values: &[bool]) -> Result<Option<Table>, AllocError> {
-    let problem = encode(alloc, file)?;
-    if !satisfied(&problem, values) {
+/// The count problem of a file.
+fn problem_of(alloc: Global, file: &DrawFile) -> Result<Problem, AllocError>
+    ensures { IfOk result (λ problem. problem ≡ rules_of file.now) }
+{
+    match file.kind() {
+        Kind::Pairing => encode(alloc, file),
+    }
+}
+
+/// The literals of a state's moves.
+fn lits_in(alloc: Global, state: &State) -> Result<Vec<Lit>, AllocError>
+    ensures { IfOk result (λ lits. lits.items ≡ lits_of_moves state.now.file state.now.moves) }
+{
+    let file = state.file();
+    match file.kind() {
+        Kind::Pairing => lits_of(alloc, file, state.moves()),
+    }
+}
+
+/// Whether the values make each of the literals true.
+fn make_true(values: &[bool], lits: &[Lit]) -> bool
+    ensures { result ≡ true → SatisfiesQuestion values.now lits.now }
+{
+    for lit in lits {
+        if !makes_true(values, *lit) {
+            return false;
+        }
+    }
+    true
+}
+
+/// Whether the values make the literal true.
+fn makes_true(values: &[bool], lit: Lit) -> bool
+    ensures { result ≡ makes_true values.now lit }
+{
+    let place = lit.atom.0 as usize;
+    let value = place < values.len() && values[place];
+    if lit.positive { value } else { !value }
+}
+
+/// The table that values make in a state, where they satisfy the file's rules and make the literals
+/// of its moves true.
+fn decoded(alloc: Global, state: &State, values: &[bool]) -> Result<Option<Table>, AllocError> {
+    let file = state.file();
+    let problem = problem_of(alloc, file)?;
+    let lits = lits_in(alloc, state)?;
+    if !satisfied(&problem, values) || !make_true(values, &lits) {
         return Ok(None);
     }
-    let moves: &[Move] = &[];
-    let table = decode(alloc, file, moves, values)?;
-    Ok(Some(table))
+    table_of(alloc, state, values)
+}
+
+/// The table of values that satisfy the rules and the moves of a state.
+fn table_of(alloc: Global, state: &State, values: &[bool]) -> Result<Option<Table>, AllocError>
+    requires rules { Satisfies values.now (rules_of state.now.file) }
+    requires moves { SatisfiesQuestion values.now (lits_of_moves state.now.file state.now.moves) }
+{
+    let file = state.file();
+    match file.kind() {
+        Kind::Pairing => {
+            let table = decode(alloc, file, state.moves(), values)?;
+            Ok(Some(table))
+        }
+    }
 }
 
 /// The values of so many runners-up and winners that make just these pairs true.
@@ -71,7 +130,7 @@ fn is_encoded(
     number: usize,
     rules: &[(usize, &[u32], (u32, u32))],
 ) -> Result<bool, AllocError> {
-    let problem = encode(alloc, file)?;
+    let problem = problem_of(alloc, file)?;
     for (place, over, bounds) in rules {
         if !is_rule(&problem, *place, over, *bounds) {
             return Ok(false);
@@ -93,11 +152,11 @@ fn a_pairing_is_counted(rt: HostRuntime) -> Result<(), Fail> {
     Ok(())
 }
 
-/// Whether the values that give these winners make the table of the same winners again.
-fn make_their_table(alloc: Global, file: &DrawFile, given: &[usize]) -> Result<bool, AllocError> {
+/// Whether the values that give these winners make the table of the same winners again, in this state.
+fn make_their_table(alloc: Global, state: &State, given: &[usize]) -> Result<bool, AllocError> {
     let values = values_of(alloc, 8, given)?;
-    match decoded(alloc, file, &values)? {
-        Some(table) => Ok(are_places(table.opponents(), given)),
+    match decoded(alloc, state, &values)? {
+        Some(Table::Pairs(pairs)) => Ok(are_places(pairs.winners(), given)),
         None => Ok(false),
     }
 }
@@ -112,14 +171,50 @@ fn are_places(teams: &[TeamId], places: &[usize]) -> bool {
     teams.len() == places.len()
 }
 
-/// The values of the drawn table make it again; those of two runners-up with one winner make none.
-/// The winners stand first in the file.
+/// The state after a runner-up got a winner, and whether both balls were accepted.
+fn paired(
+    alloc: Global,
+    file: &DrawFile,
+    runner: TeamId,
+    winner: TeamId,
+) -> Result<(State, bool), AllocError> {
+    let mut state = State::start(alloc, file)?;
+    let drawn = state.apply(alloc, Move::Drawn(runner)).is_ok();
+    let accepted = state.apply(alloc, Move::Paired(runner, winner)).is_ok();
+    Ok((state, drawn && accepted))
+}
+
+/// Whether the values of the drawn table make it again, and those of two runners-up with one winner
+/// make none.
+fn make_tables_at_first(alloc: Global, file: &DrawFile) -> Result<bool, AllocError> {
+    let state = State::start(alloc, file)?;
+    let drawn = make_their_table(alloc, &state, &DRAWN)?;
+    let twice = make_their_table(alloc, &state, &[3, 5, 3, 1, 2, 7, 4, 6])?;
+    Ok(drawn && !twice)
+}
+
+/// Whether the values of the drawn table make it in the state in which this pair was drawn.
+fn make_it_after(
+    alloc: Global,
+    file: &DrawFile,
+    runner: TeamId,
+    winner: TeamId,
+) -> Result<bool, AllocError> {
+    let (state, accepted) = paired(alloc, file, runner, winner)?;
+    let made = make_their_table(alloc, &state, &DRAWN)?;
+    Ok(accepted && made)
+}
+
+/// The values of the drawn table make it again, at first and after its pair of Villarreal and
+/// Juventus, but not after a pair of Villarreal and Lille, which it does not have. The winners stand
+/// first in the file; Villarreal is the sixth runner-up.
 #[test]
 fn values_make_tables(rt: HostRuntime) -> Result<(), Fail> {
     let alloc = rt.alloc();
     let file = file_of(alloc, ROUND_OF_16)?;
-    assert!(rt; make_their_table(alloc, &file, &DRAWN)?);
-    assert!(rt; !make_their_table(alloc, &file, &[3, 5, 3, 1, 2, 7, 4, 6])?);
+    assert!(rt; make_tables_at_first(alloc, &file)?);
+    assert!(rt; make_it_after(alloc, &file, TeamId(13), TeamId(7))?);
+    assert!(rt; !make_it_after(alloc, &file, TeamId(13), TeamId(6))?);
     Ok(())
 }
 
@@ -133,16 +228,11 @@ fn have_literals(
     atom: u32,
 ) -> Result<bool, AllocError> {
     let drawn = state.apply(alloc, Move::Drawn(runner)).is_ok();
-    let before = lits(alloc, state)?;
+    let before = lits_in(alloc, state)?;
     let paired = state.apply(alloc, Move::Paired(runner, winner)).is_ok();
-    let after = lits(alloc, state)?;
+    let after = lits_in(alloc, state)?;
     let one = are_positive(after.as_slice(), &[atom]);
     Ok(drawn && paired && before.is_empty() && one)
-}
-
-/// The literals of a state's moves.
-fn lits(alloc: Global, state: &State) -> Result<Vec<Lit>, AllocError> {
-    lits_of(alloc, state.file(), state.moves())
 }
 
 /// A drawn ball has no literal, a pair has one. Villarreal is the sixth runner-up, Juventus the

@@ -3,6 +3,8 @@
 
 mod answering;
 #[cfg(test)]
+mod call_tests;
+#[cfg(test)]
 mod check_tests;
 mod checking;
 #[cfg(test)]

@@ -5,20 +5,26 @@ use crate::run::run_draw;
 use crate::status::Status;
 use draw_lines::law_pieces_are_lines;
 use draw_ports::{MemorySink, MemorySource, OpenGate};
-use draw_state::law_states_stay;
-use draw_tables::{law_legal_where_nothing_broken, law_one_first_broken, law_one_table_of_text};
+use draw_state::{
+    law_one_run, law_one_verdict, law_replies_name_teams, law_states_stay, law_steps_below_limit,
+};
+use draw_tables::{
+    law_legal_where_nothing_broken, law_offer_where_decided, law_offered_where_possible,
+    law_one_first_broken, law_one_offer, law_one_table_of_text, law_states_name_teams,
+};
 use pairing_draw::{
-    law_completable_where_satisfied, law_offer_exists, law_one_offer,
-    law_rules_and_questions_are_formed, law_tables_satisfy, law_values_complete,
+    law_completable_where_satisfied, law_offer_exists, law_rules_and_questions_are_formed,
+    law_tables_satisfy, law_values_complete, law_values_of_tables,
 };
 use rule_sets::{
-    DrawFile, law_files_have_form, law_first_bad_pair, law_first_fault_of_bytes, rules_from,
+    DrawFile, law_files_have_form, law_files_have_pairs, law_first_bad_pair,
+    law_first_fault_of_bytes, read_file,
 };
 use std::alloc::{AllocError, Global};
 use std::sync::Wait;
 use std::test::Fail;
 use std::thread::Threads;
-use team_files::{FileFault, Kind, law_find_by_code, law_first_fault, law_same_code, read_head};
+use team_files::{FileFault, Kind, law_find_by_code, law_first_fault, law_same_code};
 
 pub(crate) const ROUND_OF_16: &str =
     r#"{"kind":"pairing","teams":[{"code":"MCI","pot":1,"tags":["ENG"],"group":"A"},{"code":"LIV","pot":1,"tags":["ENG"],"group":"B"},{"code":"AJX","pot":1,"tags":["NED"],"group":"C"},{"code":"RMA","pot":1,"tags":["ESP"],"group":"D"},{"code":"BAY","pot":1,"tags":["GER"],"group":"E"},{"code":"MUN","pot":1,"tags":["ENG"],"group":"F"},{"code":"LIL","pot":1,"tags":["FRA"],"group":"G"},{"code":"JUV","pot":1,"tags":["ITA"],"group":"H"},{"code":"PSG","pot":2,"tags":["FRA"],"group":"A"},{"code":"ATM","pot":2,"tags":["ESP"],"group":"B"},{"code":"SCP","pot":2,"tags":["POR"],"group":"C"},{"code":"INT","pot":2,"tags":["ITA"],"group":"D"},{"code":"BEN","pot":2,"tags":["POR"],"group":"E"},{"code":"VIL","pot":2,"tags":["ESP"],"group":"F"},{"code":"RBS","pot":2,"tags":["AUT"],"group":"G"},{"code":"CHE","pot":2,"tags":["ENG"],"group":"H"}]}"#;
@@ -421,8 +427,7 @@ fn statuses_have_their_causes(rt: HostRuntime) -> Result<(), Fail> {
 
 /// The draw file of a head.
 pub(crate) fn file_of(alloc: Global, head: &str) -> Result<DrawFile, FileFault> {
-    let head = read_head(alloc, head.as_bytes())?;
-    rules_from(alloc, head)
+    read_file(alloc, head.as_bytes())
 }
 
 /// Whether the file is of a pairing of two pots, without groups, limits and fixed places.
@@ -446,21 +451,30 @@ fn a_file_tells_its_kind(rt: HostRuntime) -> Result<(), Fail> {
 #[test]
 fn the_laws_return(rt: HostRuntime) {
     law_one_offer();
+    law_offered_where_possible();
+    law_offer_where_decided();
+    law_states_name_teams();
     law_completable_where_satisfied();
     law_rules_and_questions_are_formed();
     law_tables_satisfy();
     law_values_complete();
+    law_values_of_tables();
     law_legal_where_nothing_broken();
     law_one_first_broken();
     law_one_table_of_text();
     law_offer_exists();
     law_states_stay();
+    law_one_verdict();
+    law_steps_below_limit();
+    law_replies_name_teams();
+    law_one_run();
     law_first_fault();
     law_find_by_code();
     law_same_code();
     law_first_bad_pair();
     law_first_fault_of_bytes();
     law_files_have_form();
+    law_files_have_pairs();
     law_pieces_are_lines();
     law_one_answer();
     law_answer_exists();

@@ -139,7 +139,7 @@ fn state_after(alloc: Global, before: &State, added: Move) -> Result<State, Allo
 }
 
 /// The offer of a state, by the kind of its draw.
-fn offer_of(alloc: Global, state: &State) -> Result<Vec<Choice>, AllocError>
+pub(crate) fn offer_of(alloc: Global, state: &State) -> Result<Vec<Choice>, AllocError>
     ensures { IfOk result (λ offered. IsOffer state.now.file state.now.moves offered.items) }
 {
     let file = state.file();
