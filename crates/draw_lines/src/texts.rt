@@ -1,7 +1,7 @@
 ghost use Rattle.std.specs.Prelude.{◌≡◌, ◌++◌, IfOk, OnOk, codes};
-ghost use Rattle.draw_tables.specs.Names.{AreChoicesOf, AreMovesOf, IsPhaseOf};
+ghost use Rattle.draw_tables.specs.Names.{AreFileChoices, AreFileMoves, IsFilePhase};
 ghost use Rattle.draw_tables.specs.Pots.{IsTeamOf};
-ghost use Rattle.draw_state.specs.Replies.{IsNextOf, IsReplyOf};
+ghost use Rattle.draw_state.specs.Replies.{IsFileNextLine, IsFileReply};
 ghost use Rattle.draw_lines.specs.Texts.{code_text, choices_text, phase_text, next_text, refusal_text, move_text, moves_text, reply_text, opening_text};
 
 use draw_state::{NextLine, Refusal, Reply};
@@ -12,7 +12,7 @@ use team_files::TeamId;
 
 /// The lines of a reply, each with its line feed.
 pub fn reply_text(alloc: Global, file: &DrawFile, reply: &Reply) -> Result<Vec<u8>, AllocError>
-    requires teams { IsReplyOf file.now reply.now }
+    requires teams { IsFileReply file.now reply.now }
     ensures { IfOk result (λ text. text.items ≡ reply_text file.now reply.now) }
 {
     match reply {
@@ -28,7 +28,7 @@ pub fn reply_text(alloc: Global, file: &DrawFile, reply: &Reply) -> Result<Vec<u
 
 /// The lines of the opening, each with its line feed.
 pub fn opening_text(alloc: Global, file: &DrawFile, next: &NextLine) -> Result<Vec<u8>, AllocError>
-    requires teams { IsNextOf file.now next.now }
+    requires teams { IsFileNextLine file.now next.now }
     ensures { IfOk result (λ text. text.items ≡ opening_text file.now next.now) }
 {
     let kind = file.kind().text();
@@ -54,7 +54,7 @@ fn refusal_text(refusal: Refusal) -> &'static str
 
 /// Writes the line of each move.
 fn add_moves(text: &mut Vec<u8>, file: &DrawFile, moves: &[Move]) -> Result<(), AllocError>
-    requires teams { AreMovesOf file.now moves.now }
+    requires teams { AreFileMoves file.now moves.now }
     ensures { OnOk result (text.new.items ≡ text.old.items ++ moves_text file.now moves.now) }
 {
     for added in moves {
@@ -96,7 +96,7 @@ fn add_paired(
 
 /// Writes the line of what comes next.
 fn add_next(text: &mut Vec<u8>, file: &DrawFile, next: &NextLine) -> Result<(), AllocError>
-    requires teams { IsNextOf file.now next.now }
+    requires teams { IsFileNextLine file.now next.now }
     ensures { OnOk result (text.new.items ≡ text.old.items ++ next_text file.now next.now) }
 {
     match next {
@@ -112,7 +112,7 @@ fn add_next(text: &mut Vec<u8>, file: &DrawFile, next: &NextLine) -> Result<(), 
 }
 
 fn add_phase(text: &mut Vec<u8>, file: &DrawFile, phase: Phase) -> Result<(), AllocError>
-    requires teams { IsPhaseOf file.now phase }
+    requires teams { IsFilePhase file.now phase }
     ensures { OnOk result (text.new.items ≡ text.old.items ++ phase_text file.now phase) }
 {
     match phase {
@@ -129,7 +129,7 @@ fn add_phase(text: &mut Vec<u8>, file: &DrawFile, phase: Phase) -> Result<(), Al
 
 /// Writes each choice, with a space before it.
 fn add_choices(text: &mut Vec<u8>, file: &DrawFile, choices: &[Choice]) -> Result<(), AllocError>
-    requires teams { AreChoicesOf file.now choices.now }
+    requires teams { AreFileChoices file.now choices.now }
     ensures { OnOk result (text.new.items ≡ text.old.items ++ choices_text file.now choices.now) }
 {
     for choice in choices {

@@ -1,3 +1,3 @@
 pub mod Refusals
-pub mod Verdicts
+pub mod Outcomes
 pub mod Steps

@@ -1,5 +1,5 @@
 -- The first cause that refuses a command, cause by cause in their order, and when none does.
-use Rattle.std.proofs.Common.{◌≡◌, ◌≢◌, ℕ, ◌<◌, ◌≤◌, List, [], ◌∷◌, Some, None, inl, inr, refl, subst, arith}
+use Rattle.std.proofs.Common.{◌≡◌, ◌≢◌, ℕ, ◌<◌, ◌≤◌, List, [], ◌∷◌, Some, None, inl, inr, refl, ap, subst, arith}
 use Rattle.rule_sets.specs.Files.{DrawFile}
 use Rattle.draw_tables.specs.declared.moves.Move.{Move}
 use Rattle.draw_tables.specs.declared.moves.Choice.{Choice}
@@ -9,8 +9,9 @@ use Rattle.draw_tables.specs.States.{phase_of, candidates}
 use Rattle.draw_tables.specs.Offers.{IsPossible}
 use Rattle.draw_state.specs.declared.commands.Word.{Word}
 use Rattle.draw_state.specs.declared.commands.Command.{Command}
+use Rattle.draw_state.specs.declared.commands.Action.{Action}
 use Rattle.draw_state.specs.declared.replies.Refusal.{Refusal}
-use Rattle.draw_state.specs.Commands.{choice_of, IsBallOf, most_commands, Refuses, IsFirst, IsRefused, IsAccepted}
+use Rattle.draw_state.specs.Commands.{choice_of, IsBallOf, AsksFor, most_commands, Refuses, IsFirst, IsRefusedCommand, IsAcceptedCommand}
 
 -- what is first has the property
 pub first_holds : {A : Type 0} (P : A → Type 0) (xs : List A) (x : A) → IsFirst P xs x → P x
@@ -31,7 +32,7 @@ module _ (file : DrawFile) (ms : List Move) (answered : ℕ) (command : Command)
   Cause r = Refuses file ms answered command r
 
   abbrev RefusedFor : Refusal → Type 0
-  RefusedFor r = IsRefused file ms answered command r
+  RefusedFor r = IsRefusedCommand file ms answered command r
 
   pub for_limit : most_commands ≤ answered → RefusedFor Refusal.Limit
   for_limit past = inl (refl, past)
@@ -83,8 +84,8 @@ module _ (file : DrawFile) (ms : List Move) (answered : ℕ) (command : Command)
             pub for_excluded : ¬ IsPossible file ms c → RefusedFor Refusal.Excluded
             for_excluded not = inr (in_time, inr (is_command, inr (is_known, inr (not_over, inr (is_candidate, inl (refl, (c, (word, ball, names), candidate, not)))))))
 
-            pub accepted : IsPossible file ms c → IsAccepted file ms answered command c
-            accepted possible = record { ball = (word, ball, names); nothing_refuses = none }
+            pub accepted : IsPossible file ms c → IsAcceptedCommand file ms answered command (Action.Ball c)
+            accepted possible = record { asks = (word, ball, names); nothing_refuses = none }
               where
                 none : (r : Refusal) → ¬ Cause r
                 none Refusal.Limit h = in_time h
@@ -94,10 +95,13 @@ module _ (file : DrawFile) (ms : List Move) (answered : ℕ) (command : Command)
                 none Refusal.Phase h = is_candidate h
                 none Refusal.Excluded h = h.3 (subst (λ d. IsPossible file ms d) (same_choice h.0 h.1) possible)
 
--- a ball names one choice
+-- a ball names one choice, and a command asks for one action
 pub one_choice : (file : DrawFile) (command : Command) (c d : Choice) → IsBallOf file command c → IsBallOf file command d → c ≡ d
 one_choice file command c d h g =
     let same : h.0 ≡ g.0 = cc in
     let some : choice_of file h.0 ≡ Some d = rw same g.2 in
     let e = h.2 in
     cc
+
+pub one_action : (file : DrawFile) (command : Command) (a b : Action) → AsksFor file command a → AsksFor file command b → a ≡ b
+one_action file command (Action.Ball c) (Action.Ball d) h g = ap (λ x. Action.Ball x) (one_choice file command c d h g)

@@ -4,31 +4,54 @@ use Rattle.rule_sets.specs.Files.{DrawFile}
 use Rattle.draw_tables.specs.declared.moves.Move.{Move}
 use Rattle.draw_tables.specs.declared.moves.Choice.{Choice}
 use Rattle.draw_tables.specs.declared.moves.Phase.{Phase}
-use Rattle.draw_tables.specs.Names.{AreMovesOf, IsPhaseOf}
+use Rattle.draw_tables.specs.Names.{AreFileMoves, IsFilePhase}
 use Rattle.draw_tables.specs.States.{phase_of, candidates, move_in, IsMoveOf, IsState}
-use Rattle.draw_tables.specs.Offers.{IsOffer, IsPossible}
+use Rattle.draw_tables.specs.Offers.{IsOffer, IsPossible, IsCompletable}
 use Rattle.draw_tables.proofs.StateMoves.{state_and_move}
 use Rattle.draw_tables.proofs.Named.{states_name_teams}
 use Rattle.draw_tables.proofs.Picked.{one_offer}
 use Rattle.draw_state.specs.declared.commands.Command.{Command}
+use Rattle.draw_state.specs.declared.commands.Action.{Action}
 use Rattle.draw_state.specs.declared.replies.NextLine.{NextLine}
 use Rattle.draw_state.specs.declared.replies.Refusal.{Refusal}
 use Rattle.draw_state.specs.declared.replies.Reply.{Reply}
-use Rattle.draw_state.specs.Commands.{most_commands, Refuses, order, IsAccepted, IsRefused, IsVerdict, Adds}
-use Rattle.draw_state.specs.Runs.{Answered, IsNextLine, Step, StepBelowLimit, IsRun}
-use Rattle.draw_state.specs.Replies.{IsNextOf, IsReplyOf}
-use Rattle.draw_state.specs.Laws.{StatesStay, StepsBelowLimit, RepliesNameTeams, OneRun}
+use Rattle.draw_state.specs.Commands.{most_commands, Refuses, causes, IsAcceptedCommand, IsRefusedCommand, IsOutcome, AddsOfItself, Adds}
+use Rattle.draw_state.specs.Runs.{Reached, IsNextLine, IsStep, IsStepBelowLimit, IsRun}
+use Rattle.draw_state.specs.Replies.{WaitsForBall, IsFileNextLine, IsFileReply}
+use Rattle.draw_state.specs.Laws.{StatesStay, StepsBelowLimit, RepliesNameTeams, OneRun, OfferedIsAccepted}
 use Rattle.draw_state.proofs.Refusals.{one_choice, one_first}
-use Rattle.draw_state.proofs.Verdicts.{not_both, some_verdict, accepted_is_possible}
+use Rattle.draw_state.proofs.Outcomes.{not_both, some_outcome, accepted_is_possible, offered_outcome}
 
 -- ---- states
+
+-- in a pairing no phase adds moves of itself
+adds_none : (file : DrawFile) (ms more : List Move) (phase : Phase) → AddsOfItself file ms phase more → more ≡ []
+adds_none file ms more Phase.Runner h = h
+adds_none file ms more (Phase.Opponent r) h = h
+adds_none file ms more Phase.Complete h = h
+
+-- an accepted ball adds one move
+pub one_move : (file : DrawFile) (ms added : List Move) (c : Choice) → Adds file ms c added → (m : Move) × IsMoveOf file ms c m × (added ≡ m ∷ [])
+one_move file ms added c adds =
+    let m = adds.0 in
+    let none = adds_none file (ms ++ m ∷ []) adds.1 (phase_of file (ms ++ m ∷ [])) adds.3 in
+    (m, adds.2, adds.4 ∙ ap (λ more. m ∷ more) none)
+
+-- a candidate's move alone is what its ball adds
+pub adds_move : (file : DrawFile) (ms : List Move) (c : Choice) (m : Move) → IsMoveOf file ms c m → Adds file ms c (m ∷ [])
+adds_move file ms c m move = (m, [], move, of_itself (phase_of file (ms ++ m ∷ [])), refl)
+  where
+    of_itself : (phase : Phase) → AddsOfItself file (ms ++ m ∷ []) phase []
+    of_itself Phase.Runner = refl
+    of_itself (Phase.Opponent r) = refl
+    of_itself Phase.Complete = refl
 
 -- the moves that an accepted ball adds lead to a state
 pub added_stay : (file : DrawFile) (ms added : List Move) (c : Choice) → IsState file ms → Adds file ms c added → IsState file (ms ++ added)
 added_stay file ms added c state adds =
-    let m = adds.0 in
-    let whole : ms ++ added ≡ ms ++ m ∷ [] = ap (λ xs. ms ++ xs) adds.2 in
-    rw whole (state_and_move file ms m state (c, adds.1))
+    let one = one_move file ms added c adds in
+    let whole : ms ++ added ≡ ms ++ one.0 ∷ [] = ap (λ xs. ms ++ xs) one.2 in
+    rw whole (state_and_move file ms one.0 state (c, one.1))
 
 pub states_stay : StatesStay
 states_stay file ms answered command new_ms (Reply.Refused refusal) state step = rw step.1 state
@@ -38,12 +61,12 @@ states_stay file ms answered command new_ms (Reply.Taken added next) state step 
 
 -- the causes but for the limit do not look at the count
 module _ (file : DrawFile) (ms : List Move) (n k : ℕ) (command : Command) (below : n < most_commands) (also : k < most_commands) where
-  refused_alike : (r : Refusal) → IsRefused file ms n command r → IsRefused file ms k command r
+  refused_alike : (r : Refusal) → IsRefusedCommand file ms n command r → IsRefusedCommand file ms k command r
   refused_alike r (inl (is, past)) = absurd (omega arith)
   refused_alike r (inr (in_time, rest)) = inr (λ past. absurd (omega arith), rest)
 
-  accepted_alike : (c : Choice) → IsAccepted file ms n command c → IsAccepted file ms k command c
-  accepted_alike c h = record { ball = h.ball; nothing_refuses = none }
+  accepted_alike : (a : Action) → IsAcceptedCommand file ms n command a → IsAcceptedCommand file ms k command a
+  accepted_alike a h = record { asks = h.asks; nothing_refuses = none }
     where
       none : (r : Refusal) → ¬ Refuses file ms k command r
       none Refusal.Limit past = omega arith
@@ -53,9 +76,9 @@ module _ (file : DrawFile) (ms : List Move) (n k : ℕ) (command : Command) (bel
       none Refusal.Phase g = h.nothing_refuses Refusal.Phase g
       none Refusal.Excluded g = h.nothing_refuses Refusal.Excluded g
 
-  step_alike : (new_ms : List Move) (reply : Reply) → Step file ms n command new_ms reply → Step file ms k command new_ms reply
+  step_alike : (new_ms : List Move) (reply : Reply) → IsStep file ms n command new_ms reply → IsStep file ms k command new_ms reply
   step_alike new_ms (Reply.Refused r) h = (refused_alike r h.0, h.1)
-  step_alike new_ms (Reply.Taken added next) h = (h.0, accepted_alike h.0 h.1, h.2, h.3, h.4)
+  step_alike new_ms (Reply.Taken added next) h = (h.0, accepted_alike (Action.Ball h.0) h.1, h.2, h.3, h.4)
 
 pub steps_below_limit : StepsBelowLimit
 steps_below_limit file ms answered command new_ms reply below =
@@ -63,15 +86,20 @@ steps_below_limit file ms answered command new_ms reply below =
 
 -- ---- names
 
-last_named : (file : DrawFile) (ms added : List Move) → AreMovesOf file (ms ++ added) → AreMovesOf file added
+last_named : (file : DrawFile) (ms added : List Move) → AreFileMoves file (ms ++ added) → AreFileMoves file added
 last_named file [] added h = h
 last_named file (m ∷ ms) added h = last_named file ms added h.1
 
-pub next_named : (file : DrawFile) (ms : List Move) (next : NextLine) → IsState file ms → IsNextLine file ms next → IsNextOf file next
+waits : (phase : Phase) → phase ≢ Phase.Complete → WaitsForBall phase
+waits Phase.Runner more = tt
+waits (Phase.Opponent r) more = tt
+waits Phase.Complete more = more refl
+
+pub next_named : (file : DrawFile) (ms : List Move) (next : NextLine) → IsState file ms → IsNextLine file ms next → IsFileNextLine file next
 next_named file ms NextLine.Complete state h = tt
 next_named file ms NextLine.Impossible state h = tt
 next_named file ms (NextLine.Choices phase choices) state h =
-    (subst (λ p. IsPhaseOf file p) h.0 (states_name_teams.phase file ms state), states_name_teams.offer file ms choices h.3)
+    (waits phase h.1, subst (λ p. IsFilePhase file p) h.0 (states_name_teams.phase file ms state), states_name_teams.offer file ms choices h.3)
 
 pub replies_name_teams : RepliesNameTeams
 replies_name_teams = record {
@@ -80,7 +108,7 @@ replies_name_teams = record {
 }
   where
     named : (file : DrawFile) (ms : List Move) (answered : ℕ) (command : Command) (new_ms : List Move) (reply : Reply)
-        → IsState file ms → Step file ms answered command new_ms reply → IsReplyOf file reply
+        → IsState file ms → IsStep file ms answered command new_ms reply → IsFileReply file reply
     named file ms answered command new_ms (Reply.Refused refusal) state step = tt
     named file ms answered command new_ms (Reply.Taken added next) state step =
         let later = added_stay file ms added step.0 state step.2 in
@@ -105,18 +133,20 @@ one_next file ms (NextLine.Choices p cs) (NextLine.Choices q ds) h g =
 
 one_added : (file : DrawFile) (ms a b : List Move) (c : Choice) → Adds file ms c a → Adds file ms c b → a ≡ b
 one_added file ms a b c h g =
-    let move = sym h.1.1 ∙ g.1.1 in
-    let same : h.0 ≡ g.0 = cc in
-    h.2 ∙ ap (λ m. m ∷ []) same ∙ sym g.2
+    let first = one_move file ms a c h in
+    let second = one_move file ms b c g in
+    let move = sym first.1.1 ∙ second.1.1 in
+    let same : first.0 ≡ second.0 = cc in
+    first.2 ∙ ap (λ m. m ∷ []) same ∙ sym second.2
 
 module _ (file : DrawFile) (ms : List Move) (answered : ℕ) (command : Command) where
-  pub one_step : (a b : List Move) (r s : Reply) → Step file ms answered command a r → Step file ms answered command b s → (a ≡ b) × (r ≡ s)
+  pub one_step : (a b : List Move) (r s : Reply) → IsStep file ms answered command a r → IsStep file ms answered command b s → (a ≡ b) × (r ≡ s)
   one_step a b (Reply.Refused r) (Reply.Refused s) h g =
-      (h.1 ∙ sym g.1, ap (λ x. Reply.Refused x) (one_first (Refuses file ms answered command) order r s h.0 g.0))
-  one_step a b (Reply.Refused r) (Reply.Taken added next) h g = absurd (not_both file ms answered command g.0 r g.1 h.0)
-  one_step a b (Reply.Taken added next) (Reply.Refused r) h g = absurd (not_both file ms answered command h.0 r h.1 g.0)
+      (h.1 ∙ sym g.1, ap (λ x. Reply.Refused x) (one_first (Refuses file ms answered command) causes r s h.0 g.0))
+  one_step a b (Reply.Refused r) (Reply.Taken added next) h g = absurd (not_both file ms answered command (Action.Ball g.0) r g.1 h.0)
+  one_step a b (Reply.Taken added next) (Reply.Refused r) h g = absurd (not_both file ms answered command (Action.Ball h.0) r h.1 g.0)
   one_step a b (Reply.Taken added next) (Reply.Taken also later) h g =
-      let same : h.0 ≡ g.0 = one_choice file command h.0 g.0 h.1.ball g.1.ball in
+      let same : h.0 ≡ g.0 = one_choice file command h.0 g.0 h.1.asks g.1.asks in
       let first : Adds file ms g.0 added = subst (λ c. Adds file ms c added) same h.2 in
       let moves : added ≡ also = one_added file ms added also g.0 first g.2 in
       let new : a ≡ b = h.3 ∙ ap (λ xs. ms ++ xs) moves ∙ sym g.3 in
@@ -124,7 +154,7 @@ module _ (file : DrawFile) (ms : List Move) (answered : ℕ) (command : Command)
       let follows : next ≡ later = one_next file b next later there g.4 in
       (new, ap (λ xs. Reply.Taken xs next) moves ∙ ap (λ x. Reply.Taken also x) follows)
 
-pub one_run : (file : DrawFile) (ms : List Move) (answered : ℕ) (commands : List Command) (xs ys : List Answered)
+pub one_run : (file : DrawFile) (ms : List Move) (answered : ℕ) (commands : List Command) (xs ys : List Reached)
     → IsRun file ms answered commands xs → IsRun file ms answered commands ys → xs ≡ ys
 one_run file ms answered [] [] [] h g = refl
 one_run file ms answered [] [] (y ∷ ys) h g = absurd g
@@ -152,21 +182,21 @@ some_next file ms offered offer = go (phase_of file ms) refl offered offer
     go (Phase.Opponent r) is os h = goes_on (Phase.Opponent r) is (λ e. cc) os h
 
 module _ (file : DrawFile) (offers : (later : List Move) → IsState file later → (offered : List Choice) × IsOffer file later offered) where
-  some_step : (ms : List Move) (answered : ℕ) (command : Command) → IsState file ms → (x : Answered) × Step file ms answered command x.moves x.reply
-  some_step ms answered command state = from (some_verdict file ms answered command (offers ms state).0 (offers ms state).1)
+  some_step : (ms : List Move) (answered : ℕ) (command : Command) → IsState file ms → (x : Reached) × IsStep file ms answered command x.moves x.reply
+  some_step ms answered command state = from (some_outcome file ms answered command (offers ms state).0 (offers ms state).1)
     where
-      from : ((v : Result Choice Refusal) × IsVerdict file ms answered command v) → (x : Answered) × Step file ms answered command x.moves x.reply
+      from : ((v : Result Action Refusal) × IsOutcome file ms answered command v) → (x : Reached) × IsStep file ms answered command x.moves x.reply
       from (Err r, h) = (record { moves = ms; reply = Reply.Refused r }, (h, refl))
-      from (Ok c, h) =
+      from (Ok (Action.Ball c), h) =
           let possible = accepted_is_possible file ms answered command (offers ms state).0 (offers ms state).1 c h in
           let m = possible.0 in
-          let adds : Adds file ms c (m ∷ []) = (m, possible.1, refl) in
+          let adds = adds_move file ms c m possible.1 in
           let after = added_stay file ms (m ∷ []) c state adds in
           let offer = offers (ms ++ m ∷ []) after in
           let next = some_next file (ms ++ m ∷ []) offer.0 offer.1 in
           (record { moves = ms ++ m ∷ []; reply = Reply.Taken (m ∷ []) next.0 }, (c, h, adds, refl, next.1))
 
-  pub some_run : (ms : List Move) (answered : ℕ) (commands : List Command) → IsState file ms → (xs : List Answered) × IsRun file ms answered commands xs
+  pub some_run : (ms : List Move) (answered : ℕ) (commands : List Command) → IsState file ms → (xs : List Reached) × IsRun file ms answered commands xs
   some_run ms answered [] state = ([], tt)
   some_run ms answered (command ∷ commands) state =
       let x = some_step ms answered command state in
@@ -174,9 +204,28 @@ module _ (file : DrawFile) (offers : (later : List Move) → IsState file later 
       let rest = some_run x.0.moves (answered + 1) commands after in
       (x.0 ∷ rest.0, (x.1, rest.1))
 
+-- ---- what is offered is accepted, and can be completed
+
+taken_completes : (file : DrawFile) (ms : List Move) (offered : List Choice) (answered : ℕ) (command : Command) (new_ms added : List Move) (next : NextLine)
+    → IsOffer file ms offered → IsStep file ms answered command new_ms (Reply.Taken added next) → IsCompletable file new_ms
+taken_completes file ms offered answered command new_ms added next offer step =
+    let possible = accepted_is_possible file ms answered command offered offer step.0 step.1 in
+    let one = one_move file ms added step.0 step.2 in
+    let move = sym one.1.1 ∙ possible.1.1 in
+    let same : one.0 ≡ possible.0 = cc in
+    let whole : new_ms ≡ ms ++ possible.0 ∷ [] = step.3 ∙ ap (λ xs. ms ++ xs) (one.2 ∙ ap (λ m. m ∷ []) same) in
+    rw whole possible.2
+
+pub offered_is_accepted : OfferedIsAccepted
+offered_is_accepted = record {
+  accepted = offered_outcome;
+  completable = taken_completes;
+}
+
 pub one_run_law : OneRun
 one_run_law = record {
   one_next = one_next;
+  one_step = λ file ms answered command a b r s h g. one_step file ms answered command a b r s h g;
   one = one_run;
   some_next = some_next;
   some = λ file ms answered commands offers state. some_run file offers ms answered commands state;

@@ -1,5 +1,6 @@
 -- One command: what refuses it, which cause is told, and what an accepted ball adds.
-use Rattle.std.specs.Prelude.{◌≡◌, ◌≤◌, ◌⊎◌, ℕ, List, [], ◌∷◌, Option, Some, None, option_map, Result, Ok, Err}
+use Rattle.std.specs.Prelude.{◌≡◌, ◌≤◌, ◌⊎◌, ℕ, List, [], ◌∷◌, ◌++◌, Option, Some, None, option_map, Result, Ok, Err}
+use Rattle.team_files.specs.declared.kind.Kind.{Kind}
 use Rattle.team_files.specs.Teams.{find}
 use Rattle.rule_sets.specs.Files.{DrawFile}
 use Rattle.draw_tables.specs.declared.moves.Move.{Move}
@@ -10,18 +11,27 @@ use Rattle.draw_tables.specs.States.{phase_of, candidates, IsMoveOf}
 use Rattle.draw_tables.specs.Offers.{IsPossible}
 use Rattle.draw_state.specs.declared.commands.Word.{Word}
 use Rattle.draw_state.specs.declared.commands.Command.{Command}
+use Rattle.draw_state.specs.declared.commands.Action.{Action}
 use Rattle.draw_state.specs.declared.replies.Refusal.{Refusal}
 
--- ---- what a ball names
+-- ---- what a command asks for
 
--- the choice that a ball's word names: a code names the team that has it; a number names no choice of a pairing
+-- the choice that a number names; in a pairing none
+abbrev pub choice_of_number : Kind → DrawFile → ℕ → Option Choice
+choice_of_number Kind.Pairing file n = None
+
+-- the choice that a ball's word names: a code names the team that has it
 abbrev pub choice_of : DrawFile → Word → Option Choice
 choice_of file (Word.Team code) = option_map (λ t. Choice.Team t) (find code file.teams)
-choice_of file (Word.Number n) = None
+choice_of file (Word.Number n) = choice_of_number file.kind file n
 
 -- the command is a ball that names the choice
 abbrev pub IsBallOf : DrawFile → Command → Choice → Type 0
 IsBallOf file command c = (word : Word) × (command ≡ Command.Ball word) × (choice_of file word ≡ Some c)
+
+-- the command asks for this action
+abbrev pub AsksFor : DrawFile → Command → Action → Type 0
+AsksFor file command (Action.Ball c) = IsBallOf file command c
 
 -- ---- the refusals, each a fact by itself
 
@@ -45,11 +55,11 @@ IsUnknown file command = (word : Word) × (command ≡ Command.Ball word) × (ch
 abbrev pub ComesAfterTheEnd : DrawFile → List Move → Command → Type 0
 ComesAfterTheEnd file ms command = (word : Word) × (command ≡ Command.Ball word) × (phase_of file ms ≡ Phase.Complete)
 
--- a ball that is no candidate of the phase
+-- a ball that names a choice, and this is no candidate of the phase
 abbrev pub IsNoCandidate : DrawFile → List Move → Command → Type 0
 IsNoCandidate file ms command = (c : Choice) × IsBallOf file command c × ¬ IsAmong (candidates file ms) c
 
--- a ball that is a candidate of the phase and is not possible
+-- a ball that names a candidate of the phase, and this is not possible
 abbrev pub IsExcluded : DrawFile → List Move → Command → Type 0
 IsExcluded file ms command = (c : Choice) × IsBallOf file command c × IsAmong (candidates file ms) c × ¬ IsPossible file ms c
 
@@ -64,9 +74,16 @@ Refuses file ms answered command Refusal.Excluded = IsExcluded file ms command
 
 -- ---- the first cause
 
--- The order in which the causes are told.
-abbrev pub order : List Refusal
-order = Refusal.Limit ∷ Refusal.Form ∷ Refusal.Unknown ∷ Refusal.Complete ∷ Refusal.Phase ∷ Refusal.Excluded ∷ []
+-- The causes in the order in which they are told.
+abbrev pub causes : List Refusal
+causes =
+    Refusal.Limit
+    ∷ Refusal.Form
+    ∷ Refusal.Unknown
+    ∷ Refusal.Complete
+    ∷ Refusal.Phase
+    ∷ Refusal.Excluded
+    ∷ []
 
 -- the first of the list that has the property
 abbrev pub IsFirst : {A : Type 0} → (A → Type 0) → List A → A → Type 0
@@ -74,19 +91,29 @@ IsFirst P [] x = ⊥
 IsFirst P (y ∷ ys) x = ((x ≡ y) × P y) ⊎ (¬ P y × IsFirst P ys x)
 
 -- The command is refused for this cause, the first that holds.
-abbrev pub IsRefused : DrawFile → List Move → ℕ → Command → Refusal → Type 0
-IsRefused file ms answered command refusal = IsFirst (Refuses file ms answered command) order refusal
+abbrev pub IsRefusedCommand : DrawFile → List Move → ℕ → Command → Refusal → Type 0
+IsRefusedCommand file ms answered command refusal = IsFirst (Refuses file ms answered command) causes refusal
 
--- The command is accepted: a ball that names the choice, and no cause refuses it.
-pub record IsAccepted (file : DrawFile) (ms : List Move) (answered : ℕ) (command : Command) (c : Choice) : Type 0 where
-  pub ball : IsBallOf file command c
+-- The command is accepted: it asks for this action, and no cause refuses it.
+pub record IsAcceptedCommand (file : DrawFile) (ms : List Move) (answered : ℕ) (command : Command) (action : Action) : Type 0 where
+  pub asks : AsksFor file command action
   pub nothing_refuses : (refusal : Refusal) → ¬ Refuses file ms answered command refusal
 
--- What is said of a command: it is accepted with a choice, or refused for a cause.
-abbrev pub IsVerdict : DrawFile → List Move → ℕ → Command → Result Choice Refusal → Type 0
-IsVerdict file ms answered command (Ok c) = IsAccepted file ms answered command c
-IsVerdict file ms answered command (Err refusal) = IsRefused file ms answered command refusal
+-- What is said of a command: it is accepted with an action, or refused for a cause.
+abbrev pub IsOutcome : DrawFile → List Move → ℕ → Command → Result Action Refusal → Type 0
+IsOutcome file ms answered command (Ok action) = IsAcceptedCommand file ms answered command action
+IsOutcome file ms answered command (Err refusal) = IsRefusedCommand file ms answered command refusal
 
--- An accepted ball adds these moves: in a pairing the choice's move alone.
+-- ---- what an accepted ball adds
+
+-- the moves that a phase adds without a ball of its own; a phase that waits for a ball adds none
+abbrev pub AddsOfItself : DrawFile → List Move → Phase → List Move → Type 0
+AddsOfItself file ms Phase.Runner more = more ≡ []
+AddsOfItself file ms (Phase.Opponent r) more = more ≡ []
+AddsOfItself file ms Phase.Complete more = more ≡ []
+
+-- An accepted ball adds these moves: the choice's move, and then what the phase after it adds of itself.
 abbrev pub Adds : DrawFile → List Move → Choice → List Move → Type 0
-Adds file ms c added = (m : Move) × IsMoveOf file ms c m × (added ≡ m ∷ [])
+Adds file ms c added =
+    (m : Move) × (more : List Move) × IsMoveOf file ms c m
+    × AddsOfItself file (ms ++ m ∷ []) (phase_of file (ms ++ m ∷ [])) more × (added ≡ m ∷ more)

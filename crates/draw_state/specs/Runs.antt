@@ -7,9 +7,10 @@ use Rattle.draw_tables.specs.declared.moves.Phase.{Phase}
 use Rattle.draw_tables.specs.States.{phase_of}
 use Rattle.draw_tables.specs.Offers.{IsOffer}
 use Rattle.draw_state.specs.declared.commands.Command.{Command}
+use Rattle.draw_state.specs.declared.commands.Action.{Action}
 use Rattle.draw_state.specs.declared.replies.NextLine.{NextLine}
 use Rattle.draw_state.specs.declared.replies.Reply.{Reply}
-use Rattle.draw_state.specs.Commands.{most_commands, IsRefused, IsAccepted, Adds}
+use Rattle.draw_state.specs.Commands.{most_commands, IsRefusedCommand, IsAcceptedCommand, Adds}
 
 -- What comes next after the moves: nothing in the phase Complete; else the phase and the offer, or `impossible` where
 -- the offer is empty.
@@ -21,24 +22,25 @@ IsNextLine file ms (NextLine.Choices phase choices) =
 
 -- One command after these moves, where so many were answered before: the moves after it, and its reply. A refused
 -- command changes nothing.
-abbrev pub Step : DrawFile → List Move → ℕ → Command → List Move → Reply → Type 0
-Step file ms answered command new_ms (Reply.Refused refusal) = IsRefused file ms answered command refusal × (new_ms ≡ ms)
-Step file ms answered command new_ms (Reply.Taken added next) =
-    (c : Choice) × IsAccepted file ms answered command c × Adds file ms c added × (new_ms ≡ ms ++ added) × IsNextLine file new_ms next
+abbrev pub IsStep : DrawFile → List Move → ℕ → Command → List Move → Reply → Type 0
+IsStep file ms answered command new_ms (Reply.Refused refusal) = IsRefusedCommand file ms answered command refusal × (new_ms ≡ ms)
+IsStep file ms answered command new_ms (Reply.Taken added next) =
+    (c : Choice) × IsAcceptedCommand file ms answered command (Action.Ball c) × Adds file ms c added × (new_ms ≡ ms ++ added)
+    × IsNextLine file new_ms next
 
 -- One command by itself: the step that it is wherever fewer commands were answered than are answered at most.
-abbrev pub StepBelowLimit : DrawFile → List Move → Command → List Move → Reply → Type 0
-StepBelowLimit file ms command new_ms reply = (answered : ℕ) → answered < most_commands → Step file ms answered command new_ms reply
+abbrev pub IsStepBelowLimit : DrawFile → List Move → Command → List Move → Reply → Type 0
+IsStepBelowLimit file ms command new_ms reply = (answered : ℕ) → answered < most_commands → IsStep file ms answered command new_ms reply
 
 -- what a command led to
-pub record Answered : Type 0 where
+pub record Reached : Type 0 where
   pub moves : List Move
   pub reply : Reply
 
 -- A run: for each command, one after another, the moves and the reply that it leads to.
-abbrev pub IsRun : DrawFile → List Move → ℕ → List Command → List Answered → Type 0
+abbrev pub IsRun : DrawFile → List Move → ℕ → List Command → List Reached → Type 0
 IsRun file ms answered [] [] = Unit {0}
 IsRun file ms answered [] (x ∷ xs) = ⊥
 IsRun file ms answered (command ∷ commands) [] = ⊥
 IsRun file ms answered (command ∷ commands) (x ∷ xs) =
-    Step file ms answered command x.moves x.reply × IsRun file x.moves (answered + 1) commands xs
+    IsStep file ms answered command x.moves x.reply × IsRun file x.moves (answered + 1) commands xs

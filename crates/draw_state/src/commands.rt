@@ -1,3 +1,4 @@
+use draw_tables::Choice;
 use team_files::Code;
 
 /// What a ball says: a team's code or a number.
@@ -12,4 +13,11 @@ pub enum Word {
 pub enum Command {
     Ball(Word),
     Bad,
+}
+
+/// What an accepted command does.
+#[derive(Clone, Copy, Debug, PartialEq, Eq)]
+pub enum Action {
+    /// A ball that names this choice adds its moves.
+    Ball(Choice),
 }

@@ -1,31 +1,32 @@
 ghost use Rattle.std.specs.Prelude.{◌≡◌, ◌↔◌, IfOk, IfErr, IsTrue};
 ghost use Rattle.draw_tables.specs.Offers.{IsOffer};
 ghost use Rattle.draw_tables.specs.Pots.{IsAmong};
-ghost use Rattle.draw_state.specs.Commands.{choice_of, IsAccepted, IsRefused};
+ghost use Rattle.draw_state.specs.Commands.{choice_of, IsAcceptedCommand, IsRefusedCommand};
 ghost use Rattle.draw_state.specs.Runs.{IsNextLine};
 
-use crate::commands::{Command, Word};
+use crate::commands::{Action, Command, Word};
 use crate::lists::Choices;
 use crate::replies::{NextLine, Refusal};
 use crate::state::State;
 use draw_tables::{Choice, Phase, is_candidate};
 use rule_sets::DrawFile;
+use team_files::Kind;
 
 /// How many commands are answered; each later one is refused.
 pub const MOST_COMMANDS: u64 = 4096;
 
 /// What is said of a command in a state whose offer is `offered`, where so many commands were
-/// `answered` before: the choice that is accepted, exactly where nothing refuses the command, or the
-/// first cause that refuses it. Takes no memory.
+/// `answered` before: what it does, exactly where nothing refuses it, or the first cause that does.
+/// Takes no memory.
 pub fn judge_command(
     state: &State,
     offered: &[Choice],
     answered: u64,
     command: Command,
-) -> Result<Choice, Refusal>
+) -> Result<Action, Refusal>
     requires { IsOffer state.now.file state.now.moves offered.now }
-    ensures accepted { IfOk result (λ c. IsAccepted state.now.file state.now.moves answered command c) }
-    ensures refused { IfErr result (λ r. IsRefused state.now.file state.now.moves answered command r) }
+    ensures accepted { IfOk result (λ action. IsAcceptedCommand state.now.file state.now.moves answered command action) }
+    ensures refused { IfErr result (λ refusal. IsRefusedCommand state.now.file state.now.moves answered command refusal) }
 {
     if answered >= MOST_COMMANDS {
         return Err(Refusal::Limit);
@@ -45,16 +46,16 @@ pub fn judge_command(
     if !has_choice(offered, choice) {
         return Err(Refusal::Excluded);
     }
-    Ok(choice)
+    Ok(Action::Ball(choice))
 }
 
 /// The choice that a ball's word names, where it names one.
 fn choice_of(file: &DrawFile, word: Word) -> Option<Choice>
     ensures { result ≡ choice_of file.now word }
 {
-    match word {
-        Word::Team(code) => file.teams().find(code).map(Choice::Team),
-        Word::Number(_) => None,
+    match (word, file.kind()) {
+        (Word::Team(code), _) => file.teams().find(code).map(Choice::Team),
+        (Word::Number(_), Kind::Pairing) => None,
     }
 }
 

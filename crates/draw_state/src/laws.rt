@@ -1,9 +1,15 @@
-ghost use Rattle.draw_state.specs.Laws.{OneVerdict, StatesStay, StepsBelowLimit, RepliesNameTeams, OneRun};
+ghost use Rattle.draw_state.specs.Laws.{OneOutcome, OfferedIsAccepted, StatesStay, StepsBelowLimit, RepliesNameTeams, OneRun};
 
-/// Of each command exactly one thing is true: it is accepted with one choice or refused for one
+/// Of each command exactly one thing is true: it is accepted with one action or refused for one
 /// cause, the first that holds. Does nothing.
-pub fn law_one_verdict()
-    ensures { OneVerdict }
+pub fn law_one_outcome()
+    ensures { OneOutcome }
+{}
+
+/// A ball of the offer is accepted, below the limit of commands, and no other; after it the moves can
+/// be completed. Does nothing.
+pub fn law_offered_is_accepted()
+    ensures { OfferedIsAccepted }
 {}
 
 /// A command leads from a state to a state. Does nothing.

@@ -9,10 +9,11 @@ mod lists;
 mod replies;
 mod state;
 
-pub use commands::{Command, Word};
+pub use commands::{Action, Command, Word};
 pub use judging::{judge_command, next_line};
 pub use laws::{
-    law_one_run, law_one_verdict, law_replies_name_teams, law_states_stay, law_steps_below_limit,
+    law_offered_is_accepted, law_one_outcome, law_one_run, law_replies_name_teams, law_states_stay,
+    law_steps_below_limit,
 };
 pub use lists::{Choices, Moves};
 pub use replies::{NextLine, Refusal, Reply};

@@ -12,7 +12,7 @@ pub enum Refusal {
     Limit,
     /// The line is no command.
     Form,
-    /// The ball names no team of the file.
+    /// The ball names no choice of the file: no team has its code, or it is a number.
     Unknown,
     /// Nothing comes any more.
     Complete,

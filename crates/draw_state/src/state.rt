@@ -1,6 +1,6 @@
 ghost use Rattle.std.specs.Prelude.{◌≡◌, ◌↔◌, [], ◌∷◌, ◌++◌, IfOk, OnOk, OnErr, IfErr, IsTrue, MatchOption, Some};
 ghost use Rattle.draw_tables.specs.declared.moves.Choice.{Choice as ChoiceValue};
-ghost use Rattle.draw_tables.specs.Names.{AreChoicesOf};
+ghost use Rattle.draw_tables.specs.Names.{AreFileChoices};
 ghost use Rattle.draw_tables.specs.Pots.{IsAmong};
 ghost use Rattle.draw_tables.specs.States.{phase_of, candidates, move_in, IsMoveOf, IsCandidateMove, IsState};
 
@@ -75,10 +75,10 @@ impl State {
         phase_of(&self.file, &self.moves)
     }
 
-    /// The candidates of the phase, in file order. The only error is want of memory.
+    /// The candidates of the phase, in order. The only error is want of memory.
     pub fn candidates(&self, alloc: Global) -> Result<Vec<Choice>, NoMemory>
         ensures candidates { IfOk result (λ v. v.items ≡ candidates self.now.file self.now.moves) }
-        ensures of_file { IfOk result (λ v. AreChoicesOf self.now.file v.items) }
+        ensures of_file { IfOk result (λ v. AreFileChoices self.now.file v.items) }
     {
         candidates(alloc, &self.file, &self.moves)
     }

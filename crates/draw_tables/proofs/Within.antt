@@ -8,9 +8,10 @@ use Rattle.draw_tables.specs.declared.moves.Move.{Move}
 use Rattle.draw_tables.specs.declared.moves.Phase.{Phase}
 use Rattle.draw_tables.specs.declared.moves.Phase.TheVariants.{Runner, Opponent, Complete}
 use Rattle.draw_tables.specs.Pots.{pot_from, AreTeamsOf, winners, runners_up, teams_of_pot}
-use Rattle.draw_tables.specs.PairingPhases.{is_drawn, is_paired, undrawn, unpaired}
+use Rattle.draw_tables.specs.Moves.{is_drawn}
+use Rattle.draw_tables.specs.PairingPhases.{is_paired, undrawn, unpaired}
 use Rattle.draw_tables.specs.States.{team_choices, candidates_in}
-use Rattle.draw_tables.specs.Names.{AreChoicesOf}
+use Rattle.draw_tables.specs.Names.{AreFileChoices}
 
 either : (file : DrawFile) (t : TeamId) (ts : List TeamId) (b : Bool)
     → t.0 < length file.teams → AreTeamsOf file ts → AreTeamsOf file (if b then t ∷ ts else ts)
@@ -31,11 +32,11 @@ filter_within file p (t ∷ ts) h = either file t (filter p ts) (p t) h.0 (filte
 
 -- ---- candidates
 
-choices_of : (file : DrawFile) (ts : List TeamId) → AreTeamsOf file ts → AreChoicesOf file (team_choices ts)
+choices_of : (file : DrawFile) (ts : List TeamId) → AreTeamsOf file ts → AreFileChoices file (team_choices ts)
 choices_of file [] h = tt
 choices_of file (t ∷ ts) h = (h.0, choices_of file ts h.1)
 
-pub candidates_within : (file : DrawFile) (ms : List Move) (p : Phase) → AreChoicesOf file (candidates_in file ms p)
+pub candidates_within : (file : DrawFile) (ms : List Move) (p : Phase) → AreFileChoices file (candidates_in file ms p)
 candidates_within file ms Runner = choices_of file (undrawn file ms) (filter_within file (λ r. not (is_drawn r ms)) (runners_up file) (teams_within file 2))
 candidates_within file ms (Opponent r) = choices_of file (unpaired file ms) (filter_within file (λ w. not (is_paired w ms)) (winners file) (teams_within file 1))
 candidates_within file ms Complete = tt

@@ -1,5 +1,6 @@
 pub mod Pots
 pub mod Pairings
+pub mod Moves
 pub mod PairingPhases
 pub mod Tables
 pub mod States

@@ -1,7 +1,6 @@
 -- What comes next in a pairing: a runner-up's ball, and then the ball of its opponent.
 use Rattle.std.specs.Prelude.{◌==◌, not, Bool, false, List, [], ◌∷◌, filter, Option, Some, None, option_and_then}
 use Rattle.std.specs.List.{list_any}
-use Rattle.std.specs.Option.{option_or}
 use Rattle.team_files.specs.declared.team_id.TeamId.{TeamId}
 use Rattle.team_files.specs.Members.{where_true}
 use Rattle.rule_sets.specs.Files.{DrawFile}
@@ -10,17 +9,11 @@ use Rattle.draw_tables.specs.declared.moves.Move.TheVariants.{Drawn, Paired}
 use Rattle.draw_tables.specs.declared.moves.Phase.{Phase}
 use Rattle.draw_tables.specs.declared.moves.Phase.TheVariants.{Runner, Opponent, Complete}
 use Rattle.draw_tables.specs.Pots.{winners, runners_up}
+use Rattle.draw_tables.specs.Moves.{is_drawn, last_drawn}
 
 -- ---- what the moves say
 
-abbrev pub draws : TeamId → Move → Bool
-draws t (Drawn s) = s.0 == t.0
-draws t (Paired r w) = false
-
--- the team was drawn
-abbrev pub is_drawn : TeamId → List Move → Bool
-is_drawn t ms = list_any (draws t) ms
-
+-- the move gives the runner-up an opponent
 abbrev pub pairs_runner_up : TeamId → Move → Bool
 pairs_runner_up t (Drawn s) = false
 pairs_runner_up t (Paired r w) = r.0 == t.0
@@ -29,6 +22,7 @@ pairs_runner_up t (Paired r w) = r.0 == t.0
 abbrev pub has_opponent : TeamId → List Move → Bool
 has_opponent t ms = list_any (pairs_runner_up t) ms
 
+-- the move gives the winner to a runner-up
 abbrev pub pairs_winner : TeamId → Move → Bool
 pairs_winner t (Drawn s) = false
 pairs_winner t (Paired r w) = w.0 == t.0
@@ -36,15 +30,6 @@ pairs_winner t (Paired r w) = w.0 == t.0
 -- the winner is paired
 abbrev pub is_paired : TeamId → List Move → Bool
 is_paired t ms = list_any (pairs_winner t) ms
-
-abbrev pub drawn_team : Move → Option TeamId
-drawn_team (Drawn t) = Some t
-drawn_team (Paired r w) = None
-
--- the team that was drawn last
-abbrev pub last_drawn : List Move → Option TeamId
-last_drawn [] = None
-last_drawn (m ∷ ms) = option_or (last_drawn ms) (drawn_team m)
 
 -- the last drawn runner-up, where it has no opponent
 abbrev pub waiting : List Move → Option TeamId
@@ -60,11 +45,12 @@ unpaired file ms = filter (λ w. not (is_paired w ms)) (winners file)
 
 -- ---- the phase
 
-abbrev pub phase_with : Option TeamId → List TeamId → Phase
-phase_with (Some r) left = Opponent r
-phase_with None [] = Complete
-phase_with None (r ∷ rs) = Runner
+-- the phase by who waits and who is undrawn
+abbrev pub pairing_phase_with : Option TeamId → List TeamId → Phase
+pairing_phase_with (Some r) left = Opponent r
+pairing_phase_with None [] = Complete
+pairing_phase_with None (r ∷ rs) = Runner
 
 -- Opponent where the last drawn runner-up has no opponent; else Runner where some runner-up is undrawn; else Complete
 abbrev pub pairing_phase : DrawFile → List Move → Phase
-pairing_phase file ms = phase_with (waiting ms) (undrawn file ms)
+pairing_phase file ms = pairing_phase_with (waiting ms) (undrawn file ms)

@@ -14,6 +14,7 @@ use Rattle.draw_tables.specs.PairingPhases.{undrawn, unpaired, pairing_phase}
 
 -- ---- phases and candidates
 
+-- the phase, by the kind
 abbrev pub phase_by : Kind → DrawFile → List Move → Phase
 phase_by Kind.Pairing file ms = pairing_phase file ms
 
@@ -25,6 +26,7 @@ phase_of file ms = phase_by file.kind file ms
 abbrev pub team_choices : List TeamId → List Choice
 team_choices teams = map (λ t. Team t) teams
 
+-- the candidates that a phase has after the moves
 abbrev pub candidates_in : DrawFile → List Move → Phase → List Choice
 candidates_in file ms Runner = team_choices (undrawn file ms)
 candidates_in file ms (Opponent r) = team_choices (unpaired file ms)
@@ -36,7 +38,7 @@ candidates file ms = candidates_in file ms (phase_of file ms)
 
 -- ---- moves
 
--- the move that a choice is in a phase, or none where the phase takes no such choice
+-- the move that a choice adds in a phase, be it a candidate or not; none where the phase takes no such choice
 abbrev pub move_in : Phase → Choice → Option Move
 move_in Runner (Team t) = Some (Drawn t)
 move_in (Opponent r) (Team t) = Some (Paired r t)
@@ -52,6 +54,7 @@ IsMoveOf file ms c m = IsAmong (candidates file ms) c × (move_in (phase_of file
 abbrev pub IsCandidateMove : DrawFile → List Move → Move → Type 0
 IsCandidateMove file before m = (c : Choice) × IsMoveOf file before c m
 
+-- each move was a candidate's in the phase of these moves and those before it
 abbrev pub AreMovesAfter : DrawFile → List Move → List Move → Type 0
 AreMovesAfter file before [] = Unit {0}
 AreMovesAfter file before (m ∷ ms) = IsCandidateMove file before m × AreMovesAfter file (before ++ m ∷ []) ms

@@ -1,5 +1,5 @@
 ghost use Rattle.std.specs.Prelude.{◌≡◌, IfOk};
-ghost use Rattle.draw_tables.specs.Names.{AreChoicesOf};
+ghost use Rattle.draw_tables.specs.Names.{AreFileChoices};
 ghost use Rattle.draw_tables.specs.PairingPhases.{undrawn, unpaired};
 ghost use Rattle.draw_tables.specs.States.{candidates, candidates_in, team_choices};
 
@@ -13,7 +13,7 @@ use std::alloc::Global;
 /// The candidates of the phase after the moves, in order. The only error is want of memory.
 pub fn candidates(alloc: Global, file: &DrawFile, moves: &[Move]) -> Result<Vec<Choice>, NoMemory>
     ensures candidates { IfOk result (λ choices. choices.items ≡ candidates file.now moves.now) }
-    ensures of_file { IfOk result (λ choices. AreChoicesOf file.now choices.items) }
+    ensures of_file { IfOk result (λ choices. AreFileChoices file.now choices.items) }
 {
     let choices = candidates_in(alloc, file, moves, phase_of(file, moves))?;
     Ok(choices)

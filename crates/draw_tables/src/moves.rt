@@ -3,7 +3,7 @@ use team_files::TeamId;
 /// What a ball adds to a draw.
 #[derive(Clone, Copy, Debug, PartialEq, Eq)]
 pub enum Move {
-    /// A runner-up was drawn.
+    /// A team was drawn: in a pairing a runner-up.
     Drawn(TeamId),
     /// A runner-up got its opponent, a winner.
     Paired(TeamId, TeamId),

@@ -1,5 +1,6 @@
 ghost use Rattle.std.specs.Prelude.{◌≡◌, ◌≢◌, [], true, false};
-ghost use Rattle.draw_tables.specs.PairingPhases.{is_drawn, has_opponent, is_paired, last_drawn, waiting, undrawn, pairing_phase};
+ghost use Rattle.draw_tables.specs.Moves.{is_drawn, last_drawn};
+ghost use Rattle.draw_tables.specs.PairingPhases.{has_opponent, is_paired, waiting, undrawn, pairing_phase};
 ghost use Rattle.draw_tables.specs.States.{phase_of};
 
 use crate::moves::{Move, Phase};

@@ -15,8 +15,11 @@ impl Table {
     pub fn clone_in(&self, alloc: Global) -> Result<Table, AllocError>
         ensures { IfOk result (λ table. table ≡ self.now) }
     {
-        let Table::Pairs(pairs) = self;
-        let winners = pairs.winners.clone_in(alloc)?;
-        Ok(Table::Pairs(PairTable { winners }))
+        match self {
+            Table::Pairs(pairs) => {
+                let winners = pairs.winners.clone_in(alloc)?;
+                Ok(Table::Pairs(PairTable { winners }))
+            }
+        }
     }
 }

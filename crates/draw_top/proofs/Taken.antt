@@ -7,12 +7,12 @@ use Rattle.draw_tables.specs.States.{IsMoveOf}
 use Rattle.draw_state.specs.declared.commands.Command.{Command}
 use Rattle.draw_state.specs.declared.replies.NextLine.{NextLine}
 use Rattle.draw_state.specs.declared.replies.Reply.{Reply}
-use Rattle.draw_state.specs.Commands.{IsAccepted}
-use Rattle.draw_state.specs.Runs.{IsNextLine, Step}
+use Rattle.draw_state.specs.Commands.{IsAcceptedCommand}
+use Rattle.draw_state.specs.Runs.{IsNextLine, IsStep}
 
 pub taken : (file after : DrawFile) (ms new_ms added : List Move) (n : ℕ) (command : Command) (c : Choice) (m : Move) (next : NextLine)
-    → IsAccepted file ms n command c → IsMoveOf file ms c m → after ≡ file → new_ms ≡ ms ++ m ∷ [] → added ≡ m ∷ [] → IsNextLine after new_ms next
-    → Step file ms n command new_ms (Reply.Taken added next)
+    → IsAcceptedCommand file ms n command c → IsMoveOf file ms c m → after ≡ file → new_ms ≡ ms ++ m ∷ [] → added ≡ m ∷ [] → IsNextLine after new_ms next
+    → IsStep file ms n command new_ms (Reply.Taken added next)
 taken file after ms new_ms added n command c m next accepted move same new is_added comes =
     let N : DrawFile → Type 0 = λ f. IsNextLine f new_ms next in
     (c, accepted, (m, move, is_added), rw is_added new, subst N same comes)

@@ -2,7 +2,7 @@
 use Rattle.std.specs.Prelude.{◌≡◌, ℕ, List}
 use Rattle.draw_state.specs.declared.replies.NextLine.{NextLine}
 use Rattle.draw_state.specs.declared.replies.Reply.{Reply}
-use Rattle.draw_state.specs.Runs.{IsNextLine, Step}
+use Rattle.draw_state.specs.Runs.{IsNextLine, IsStep}
 use Rattle.draw_lines.specs.Words.{command_of}
 use Rattle.draw_lines.specs.Texts.{opening_text, reply_text}
 use Rattle.draw_top.specs.Turns.{Turn}
@@ -14,4 +14,4 @@ IsOpeningOf turn text = (next : NextLine) × IsNextLine turn.file turn.moves nex
 -- the text tells the reply to the line, which leads from the one turn to the other
 abbrev pub IsReplyTo : Turn → Turn → ℕ → List ℕ → List ℕ → Type 0
 IsReplyTo old new answered line text =
-    (reply : Reply) × Step old.file old.moves answered (command_of line) new.moves reply × (text ≡ reply_text old.file reply)
+    (reply : Reply) × IsStep old.file old.moves answered (command_of line) new.moves reply × (text ≡ reply_text old.file reply)

@@ -1,8 +1,8 @@
 ghost use Rattle.std.specs.Prelude.{◌≡◌, [], ◌∷◌, ◌++◌, IfOk, OnErr, Ok};
 ghost use Rattle.draw_tables.specs.States.{IsCandidateMove, IsState};
 ghost use Rattle.draw_tables.specs.Offers.{IsOffer};
-ghost use Rattle.draw_state.specs.Runs.{IsNextLine, Step};
-ghost use Rattle.draw_state.specs.Replies.{IsNextOf, IsReplyOf};
+ghost use Rattle.draw_state.specs.Runs.{IsNextLine, IsStep};
+ghost use Rattle.draw_state.specs.Replies.{IsFileNextLine, IsFileReply};
 ghost use Rattle.draw_state.specs.declared.replies.Refusal.{Refusal as RefusalValue};
 ghost use Rattle.draw_state.specs.declared.replies.Reply.{Reply as ReplyValue};
 
@@ -55,7 +55,7 @@ impl Turn {
     /// What comes next.
     pub fn next(&self, alloc: Global) -> Result<NextLine, AllocError>
         ensures next { IfOk result (λ n. IsNextLine self.now.file self.now.moves n) }
-        ensures of_file { IfOk result (λ n. IsNextOf self.now.file n) }
+        ensures of_file { IfOk result (λ n. IsFileNextLine self.now.file n) }
     {
         let next = next_after(alloc, &self.state, &self.offered)?;
         Ok(next)
@@ -68,8 +68,8 @@ impl Turn {
         answered: u64,
         command: Command,
     ) -> Result<Reply, AllocError>
-        ensures step { IfOk result (λ r. Step self.old.file self.old.moves answered command self.new.moves r) }
-        ensures of_file { IfOk result (λ r. IsReplyOf self.old.file r) }
+        ensures step { IfOk result (λ r. IsStep self.old.file self.old.moves answered command self.new.moves r) }
+        ensures of_file { IfOk result (λ r. IsFileReply self.old.file r) }
         ensures refused { (refusal : RefusalValue) → result ≡ Ok (ReplyValue.Refused refusal) → self.new ≡ self.old }
         ensures file { self.new.file ≡ self.old.file }
         ensures err { OnErr result (self.new ≡ self.old) }
@@ -152,7 +152,7 @@ pub(crate) fn offer_of(alloc: Global, state: &State) -> Result<Vec<Choice>, Allo
 fn next_after(alloc: Global, state: &State, offered: &[Choice]) -> Result<NextLine, AllocError>
     requires { IsOffer state.now.file state.now.moves offered.now }
     ensures next { IfOk result (λ n. IsNextLine state.now.file state.now.moves n) }
-    ensures of_file { IfOk result (λ n. IsNextOf state.now.file n) }
+    ensures of_file { IfOk result (λ n. IsFileNextLine state.now.file n) }
 {
     expect_state(state);
     let choices = Vec::from_slice(alloc, offered)?;

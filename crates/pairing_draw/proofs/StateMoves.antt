@@ -15,7 +15,8 @@ use Rattle.draw_tables.specs.declared.moves.Move.TheVariants.{Drawn, Paired}
 use Rattle.draw_tables.specs.declared.moves.Choice.{Choice}
 use Rattle.draw_tables.specs.declared.moves.Choice.TheVariants.{Team}
 use Rattle.draw_tables.specs.Pots.{winners, runners_up, IsAmong}
-use Rattle.draw_tables.specs.PairingPhases.{last_drawn, drawn_team, waiting, has_opponent, undrawn, unpaired, is_drawn, is_paired, pairs_winner, phase_with}
+use Rattle.draw_tables.specs.Moves.{last_drawn, drawn_team, is_drawn}
+use Rattle.draw_tables.specs.PairingPhases.{waiting, has_opponent, undrawn, unpaired, is_paired, pairs_winner, pairing_phase_with}
 use Rattle.draw_tables.specs.States.{candidates_in, move_in, IsCandidateMove, AreMovesAfter, IsState}
 use Rattle.draw_tables.proofs.Among.{among_kept, among_choices}
 use Rattle.draw_tables.proofs.StateMoves.{phase_of_pairing}
@@ -86,7 +87,7 @@ module _ (file : DrawFile) (kind : file.kind ≡ Kind.Pairing) where
     fresh : (w : TeamId) → pairs_winner w m ≡ true → is_paired w before ≡ false
 
   in_phase : (before : List Move) → Each (IsKnown file) before → (o : Option TeamId) → waiting before ≡ o → (left : List TeamId) → undrawn file before ≡ left
-      → (c : Choice) (m : Move) → IsAmong (candidates_in file before (phase_with o left)) c → move_in (phase_with o left) c ≡ Some m → IsNext before m
+      → (c : Choice) (m : Move) → IsAmong (candidates_in file before (pairing_phase_with o left)) c → move_in (pairing_phase_with o left) c ≡ Some m → IsNext before m
   in_phase before h None is [] are c m among e = absurd (none among.0 among.1)
     where
       none : (k : ℕ) → slice_get [] k ≡ Some c → ⊥

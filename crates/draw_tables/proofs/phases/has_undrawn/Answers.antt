@@ -1,6 +1,6 @@
 use Rattle.std.proofs.Common.{◌≡◌, ◌+◌, drop, not, true, false, ap, sym, ◌∙◌}
 use Rattle.draw_tables.specs.Pots.{pot_from}
-use Rattle.draw_tables.specs.PairingPhases.{is_drawn}
+use Rattle.draw_tables.specs.Moves.{is_drawn}
 use Rattle.draw_tables.proofs.Members.{pot_has, pot_lacks, kept, left_out}
 use Rattle.draw_tables.proofs.phases.has_undrawn.Goals as goal
 use Rattle.draw_tables.proofs.phases.has_undrawn.Goals.{else-get-eq2-via-then-get-eq2+else-not-is_drawn, else-get-eq2-via-else-get-eq2}

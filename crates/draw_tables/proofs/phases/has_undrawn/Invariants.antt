@@ -1,7 +1,8 @@
 use Rattle.std.proofs.Common.{◌≡◌, drop, not}
 use Rattle.std.specs.Prelude.{filter}
 use Rattle.draw_tables.specs.Pots.{pot_from}
-use Rattle.draw_tables.specs.PairingPhases.{is_drawn, undrawn}
+use Rattle.draw_tables.specs.Moves.{is_drawn}
+use Rattle.draw_tables.specs.PairingPhases.{undrawn}
 use Rattle.draw_tables.proofs.phases.has_undrawn.Given as goal
 
 -- each runner-up before this place was drawn

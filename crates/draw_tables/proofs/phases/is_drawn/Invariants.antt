@@ -1,5 +1,5 @@
 use Rattle.std.proofs.Common.{◌≡◌, drop}
-use Rattle.draw_tables.specs.PairingPhases.{is_drawn}
+use Rattle.draw_tables.specs.Moves.{is_drawn}
 use Rattle.draw_tables.proofs.phases.is_drawn.Given as goal
 
 -- none of the moves before this one

@@ -1,6 +1,6 @@
 use Rattle.std.proofs.Common.{◌≡◌, drop}
 use Rattle.std.specs.Option.{option_or}
-use Rattle.draw_tables.specs.PairingPhases.{last_drawn}
+use Rattle.draw_tables.specs.Moves.{last_drawn}
 use Rattle.draw_tables.proofs.phases.last_drawn.Given as goal
 
 -- the last one so far, unless a later one comes

@@ -1,5 +1,5 @@
 use Rattle.std.proofs.Common.{◌≡◌, ◌+◌, ◌≤◌, ◌++◌, List, length, map}
-use Rattle.draw_state.specs.Runs.{Answered, IsRun}
+use Rattle.draw_state.specs.Runs.{Reached, IsRun}
 use Rattle.draw_lines.specs.Inputs.{lines_of}
 use Rattle.draw_lines.specs.Words.{command_of}
 use Rattle.draw_lines.specs.Answers.{replies_text, IsAnswer}
@@ -10,7 +10,7 @@ abbrev pub invariant-loop-line : goal.invariant-loop-line
 invariant-loop-line l = record {
   file : l.turn.file ≡ l.fn.file;
   count : l.answered + length l.left ≤ length l.commands;
-  so_far : (rest : List Answered)
+  so_far : (rest : List Reached)
       → IsRun l.fn.file l.turn.moves l.answered (map command_of (lines_of l.left)) rest
       → IsAnswer l.fn.file (lines_of l.commands) (l.text.items ++ replies_text l.fn.file rest);
 }

@@ -1,8 +1,8 @@
 use Rattle.std.proofs.Common.{refl}
 use Rattle.draw_state.specs.declared.replies.Refusal.{Refusal}
 use Rattle.draw_state.specs.declared.replies.Reply.{Reply}
-use Rattle.draw_state.specs.Runs.{Step}
-use Rattle.draw_state.specs.Replies.{IsReplyOf}
+use Rattle.draw_state.specs.Runs.{IsStep}
+use Rattle.draw_state.specs.Replies.{IsFileReply}
 use Rattle.draw_state.proofs.Steps.{replies_name_teams}
 use Rattle.draw_top.proofs.Taken.{taken}
 use Rattle.draw_top.proofs.turn.Turn.answer.Goals as goal
