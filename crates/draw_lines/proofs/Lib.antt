@@ -1,2 +1,3 @@
+pub mod Balls
 pub mod Cuts
 pub mod Lines

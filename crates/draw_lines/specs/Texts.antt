@@ -16,6 +16,7 @@ use Rattle.draw_state.specs.declared.replies.Reply.{Reply}
 abbrev pub code_text : DrawFile → TeamId → List ℕ
 code_text file id = code_of file.teams id
 
+-- a choice as a ball names it
 abbrev pub choice_text : DrawFile → Choice → List ℕ
 choice_text file (Choice.Team id) = code_text file id
 
@@ -24,10 +25,11 @@ abbrev pub choices_text : DrawFile → List Choice → List ℕ
 choices_text file [] = []
 choices_text file (c ∷ cs) = 32 ∷ choice_text file c ++ choices_text file cs
 
+-- the start of the line that tells a phase; one that waits for no ball has none
 abbrev pub phase_text : DrawFile → Phase → List ℕ
 phase_text file Phase.Runner = codes "next runner-up:"
 phase_text file (Phase.Opponent runner_up) = codes "next opponent " ++ code_text file runner_up ++ codes ":"
-phase_text file Phase.Complete = codes "next:"
+phase_text file Phase.Complete = []
 
 -- the line that tells what comes next
 abbrev pub next_text : DrawFile → NextLine → List ℕ
@@ -35,6 +37,7 @@ next_text file (NextLine.Choices phase choices) = phase_text file phase ++ choic
 next_text file NextLine.Complete = codes "complete\n"
 next_text file NextLine.Impossible = codes "impossible\n"
 
+-- the line of a refusal
 abbrev pub refusal_text : Refusal → List ℕ
 refusal_text Refusal.Limit = codes "refused limit\n"
 refusal_text Refusal.Form = codes "refused form\n"
@@ -43,19 +46,21 @@ refusal_text Refusal.Complete = codes "refused complete\n"
 refusal_text Refusal.Phase = codes "refused phase\n"
 refusal_text Refusal.Excluded = codes "refused excluded\n"
 
--- the line of a move that a ball added
+-- the line of a move
 abbrev pub move_text : DrawFile → Move → List ℕ
 move_text file (Move.Drawn id) = codes "drawn " ++ code_text file id ++ codes "\n"
 move_text file (Move.Paired runner_up winner) = codes "paired " ++ code_text file runner_up ++ codes " " ++ code_text file winner ++ codes "\n"
 
-abbrev pub moves_text : DrawFile → List Move → List ℕ
-moves_text file [] = []
-moves_text file (m ∷ ms) = move_text file m ++ moves_text file ms
+-- the line of a ball is that of the last move that it added
+abbrev pub ball_text : DrawFile → List Move → List ℕ
+ball_text file [] = []
+ball_text file (m ∷ []) = move_text file m
+ball_text file (m ∷ n ∷ ms) = ball_text file (n ∷ ms)
 
 -- The lines of a reply.
 abbrev pub reply_text : DrawFile → Reply → List ℕ
 reply_text file (Reply.Refused refusal) = refusal_text refusal
-reply_text file (Reply.Taken moves next) = moves_text file moves ++ next_text file next
+reply_text file (Reply.Taken moves next) = ball_text file moves ++ next_text file next
 
 -- The opening: the kind, the number of teams, and what comes next.
 abbrev pub opening_text : DrawFile → NextLine → List ℕ

@@ -1,8 +1,8 @@
 ghost use Rattle.std.specs.Prelude.{◌≡◌, ◌++◌, IfOk, OnOk, codes};
-ghost use Rattle.draw_tables.specs.Names.{AreFileChoices, AreFileMoves, IsFilePhase};
+ghost use Rattle.draw_tables.specs.Names.{AreFileChoices, AreFileMoves, IsFileChoice, IsFileMove, IsFilePhase};
 ghost use Rattle.draw_tables.specs.Pots.{IsTeamOf};
-ghost use Rattle.draw_state.specs.Replies.{IsFileNextLine, IsFileReply};
-ghost use Rattle.draw_lines.specs.Texts.{code_text, choices_text, phase_text, next_text, refusal_text, move_text, moves_text, reply_text, opening_text};
+ghost use Rattle.draw_state.specs.Replies.{IsFileNextLine, IsFileReply, WaitsForBall};
+ghost use Rattle.draw_lines.specs.Texts.{code_text, choice_text, choices_text, phase_text, next_text, refusal_text, move_text, ball_text, reply_text, opening_text};
 
 use draw_state::{NextLine, Refusal, Reply};
 use draw_tables::{Choice, Move, Phase};
@@ -19,7 +19,7 @@ pub fn reply_text(alloc: Global, file: &DrawFile, reply: &Reply) -> Result<Vec<u
         Reply::Refused(refusal) => Vec::from_slice(alloc, refusal_text(*refusal).as_bytes()),
         Reply::Taken { moves, next } => {
             let mut text = Vec::new(alloc);
-            add_moves(&mut text, file, moves.as_slice())?;
+            add_ball(&mut text, file, moves.as_slice())?;
             add_next(&mut text, file, next)?;
             Ok(text)
         }
@@ -52,18 +52,26 @@ fn refusal_text(refusal: Refusal) -> &'static str
     }
 }
 
-/// Writes the line of each move.
-fn add_moves(text: &mut Vec<u8>, file: &DrawFile, moves: &[Move]) -> Result<(), AllocError>
-    requires teams { AreFileMoves file.now moves.now }
-    ensures { OnOk result (text.new.items ≡ text.old.items ++ moves_text file.now moves.now) }
+/// Writes the line of a ball: that of the last move that it added.
+fn add_ball(text: &mut Vec<u8>, file: &DrawFile, moves: &[Move]) -> Result<(), AllocError>
+    requires moves { AreFileMoves file.now moves.now }
+    ensures { OnOk result (text.new.items ≡ text.old.items ++ ball_text file.now moves.now) }
 {
-    for added in moves {
-        match *added {
-            Move::Drawn(team) => add_drawn(text, file, team)?,
-            Move::Paired(runner, winner) => add_paired(text, file, runner, winner)?,
-        }
+    let Some((last, _)) = moves.split_last() else {
+        return Ok(());
+    };
+    add_move(text, file, *last)
+}
+
+/// Writes the line of a move.
+fn add_move(text: &mut Vec<u8>, file: &DrawFile, added: Move) -> Result<(), AllocError>
+    requires { IsFileMove file.now added }
+    ensures { OnOk result (text.new.items ≡ text.old.items ++ move_text file.now added) }
+{
+    match added {
+        Move::Drawn(team) => add_drawn(text, file, team),
+        Move::Paired(runner, winner) => add_paired(text, file, runner, winner),
     }
-    Ok(())
 }
 
 fn add_drawn(text: &mut Vec<u8>, file: &DrawFile, team: TeamId) -> Result<(), AllocError>
@@ -111,8 +119,10 @@ fn add_next(text: &mut Vec<u8>, file: &DrawFile, next: &NextLine) -> Result<(), 
     }
 }
 
+/// Writes the start of the line that tells a phase.
 fn add_phase(text: &mut Vec<u8>, file: &DrawFile, phase: Phase) -> Result<(), AllocError>
-    requires teams { IsFilePhase file.now phase }
+    requires waits { WaitsForBall phase }
+    requires of_file { IsFilePhase file.now phase }
     ensures { OnOk result (text.new.items ≡ text.old.items ++ phase_text file.now phase) }
 {
     match phase {
@@ -123,7 +133,7 @@ fn add_phase(text: &mut Vec<u8>, file: &DrawFile, phase: Phase) -> Result<(), Al
             text.push(b':')?;
             Ok(())
         }
-        Phase::Complete => text.extend_from_slice(b"next:"),
+        Phase::Complete => unreachable!(),
     }
 }
 
@@ -133,11 +143,20 @@ fn add_choices(text: &mut Vec<u8>, file: &DrawFile, choices: &[Choice]) -> Resul
     ensures { OnOk result (text.new.items ≡ text.old.items ++ choices_text file.now choices.now) }
 {
     for choice in choices {
-        let Choice::Team(team) = *choice;
         text.push(b' ')?;
-        text.extend_from_slice(code_text(file, team).as_bytes())?;
+        text.extend_from_slice(choice_text(file, *choice).as_bytes())?;
     }
     Ok(())
+}
+
+/// A choice as a ball names it.
+fn choice_text(file: &DrawFile, choice: Choice) -> &str
+    requires { IsFileChoice file.now choice }
+    ensures { result.now ≡ choice_text file.now choice }
+{
+    match choice {
+        Choice::Team(team) => code_text(file, team),
+    }
 }
 
 /// The code of a team.
