@@ -1,12 +1,13 @@
 -- What bytes are refused for is their first fault.
 use Rattle.std.proofs.Common.{◌≡◌, ℕ, zero, suc, ◌<◌, ◌≤◌, ◌⊎◌, inl, inr, Bool, true, false, List, [], ◌∷◌, map, refl, sym, ap, subst, ◌∙◌, Option, Some, None, Result, Ok, Err, arith}
-use Rattle.std.specs.Prelude.{◌↔◌, codes, option_and_then}
+use Rattle.std.specs.Prelude.{◌↔◌, option_and_then}
 use Rattle.std.specs.List.{All}
 use Rattle.std.specs.Str.{is_utf8}
 use Rattle.std.proofs.lemmas.List.Elements.{All-head, All-tail}
 use Rattle.std.proofs.lemmas.Str.{IsUtf8-from_is_utf8, is_utf8-from_IsUtf8}
 use Rattle.serde_json.specs.Data.{Data}
 use Rattle.serde_json.specs.Read.{read}
+use Rattle.team_files.specs.declared.kind.Kind.{Kind}
 use Rattle.team_files.specs.declared.fault.FileFault.{FileFault}
 use Rattle.team_files.specs.declared.fault.Field.{Field}
 use Rattle.team_files.specs.declared.fields.TeamFields.{TeamFields}
@@ -19,14 +20,14 @@ use Rattle.team_files.specs.Answers.{after}
 use Rattle.team_files.specs.Members.{where_true}
 use Rattle.team_files.specs.Teams.{find}
 use Rattle.team_files.specs.Codes.{codes_of, HasCodeAt, AreDifferent}
-use Rattle.team_files.specs.Heads.{IsJson, IsNotJson, Head, or_wrong, objects_in, all_team_fields, pairs_in, head_fields, teams_from, head_of}
-use Rattle.team_files.specs.Faults.{codes_in, wrong_fault, Holds, order_of, IsFirstFault}
+use Rattle.team_files.specs.Heads.{IsJson, IsNotJson, Head, pairs_in, head_fields, teams_from, head_of}
+use Rattle.team_files.specs.Faults.{codes_in, kind_at, Holds, order_of, IsFirstFault}
 use Rattle.team_files.proofs.CodeLaws.{finds_by_code, tells_same_code}
 use Rattle.team_files.proofs.FaultSteps.{FieldsTold, fields_told, CodesTold, codes_told}
-use Rattle.team_files.proofs.FaultTable.{tells_first_fault}
-use Rattle.team_files.proofs.HeadLaws.{gave, parts}
+use Rattle.team_files.proofs.FaultTable.{kind_read, tells_first_fault}
+use Rattle.team_files.proofs.HeadLaws.{parts, field_parts}
 use Rattle.rule_sets.specs.declared.pair.Pair.{Pair}
-use Rattle.rule_sets.specs.Files.{DrawFile, team_named, pairs_from, file_with, file_of, IsFileOf, IsFileFault}
+use Rattle.rule_sets.specs.Files.{DrawFile, team_named, pairs_from, limits_of, places_of, file_with, file_of, IsFileOf, IsFileFault}
 use Rattle.rule_sets.specs.Forms.{HasCode}
 use Rattle.rule_sets.specs.BadPairs.{NamesNoPair, IsFirstBadPair}
 use Rattle.rule_sets.specs.FileFaults.{IsNoCode, NamesNoTwoCodes, IsFirstWrongPair, HasBadPair, HoldsOfValue, HoldsOfBytes, IsFirstFaultOfBytes, TellsFirstFaultOfBytes}
@@ -36,9 +37,9 @@ use Rattle.rule_sets.proofs.PairLaws.{tells_first_bad_pair}
 
 -- ---- a head has the codes and the pairs of its value
 
-codes_of_fields : (d : Data) (r : Result HeadFields FileFault) (fields : HeadFields) → FieldsTold r (wrong_fault d) d → r ≡ Ok fields → map (λ f. f.code) fields.teams ≡ codes_in d
-codes_of_fields d (Ok x) fields told e = let same : x ≡ fields = cc in subst (λ (y : HeadFields). map (λ f. f.code) y.teams ≡ codes_in d) same told.2
-codes_of_fields d (Err g) fields told e = cc
+codes_of_fields : (d : Data) (r : Result HeadFields FileFault) (wrong : Option FileFault) (fields : HeadFields) → FieldsTold r wrong d → r ≡ Ok fields → map (λ f. f.code) fields.teams ≡ codes_in d
+codes_of_fields d (Ok x) wrong fields told e = let same : x ≡ fields = cc in subst (λ (y : HeadFields). map (λ f. f.code) y.teams ≡ codes_in d) same told.2
+codes_of_fields d (Err g) wrong fields told e = cc
 
 codes_of_teams : (r : Result (List Team) FileFault) (bad : Option FileFault) (fs : List TeamFields) (ts : List Team)
     → CodesTold r bad fs → r ≡ Ok ts → codes_of ts ≡ map (λ f. f.code) fs
@@ -48,21 +49,15 @@ codes_of_teams (Err g) bad fs ts told e = cc
 codes_are : (d : Data) (head : Head) → head_of d ≡ Ok head → codes_of head.teams ≡ codes_in d
 codes_are d head e =
     let p = parts d head e in
-    let fields = codes_of_fields d (head_fields d) p.0 (fields_told d) p.2.fields_are in
-    let teams = codes_of_teams (teams_from 0 p.0.teams) _ p.0.teams p.1 (codes_told p.0.teams) p.2.teams_are in
-    ap (λ (x : Head). codes_of x.teams) (sym p.2.whole) ∙ teams ∙ fields
-
-pairs_kept : (ts : List TeamFields) (pairs : Option (List HeadPair)) (fields : HeadFields)
-    → after (or_wrong pairs Field.Pairs) (λ ps. Ok (record { teams = ts; pairs = ps })) ≡ Ok fields → pairs ≡ Some fields.pairs
-pairs_kept ts None fields e = cc
-pairs_kept ts (Some ps) fields e = cc
+    let read : head_fields (kind_at d) d ≡ Ok p.1 = subst (λ kind. head_fields kind d ≡ Ok p.1) (sym (kind_read d p.0 p.3.kind_is)) p.3.fields_are in
+    let fields = codes_of_fields d (head_fields (kind_at d) d) _ p.1 (fields_told d) read in
+    let teams = codes_of_teams (teams_from 0 p.1.teams) _ p.1.teams p.2 (codes_told p.1.teams) p.3.teams_are in
+    ap (λ (x : Head). codes_of x.teams) (sym p.3.whole) ∙ teams ∙ fields
 
 pairs_are : (d : Data) (head : Head) → head_of d ≡ Ok head → pairs_in d ≡ Some head.pairs
 pairs_are d head e =
     let p = parts d head e in
-    let objects = gave (or_wrong (objects_in (codes "teams") d) Field.Teams) _ p.0 p.2.fields_are in
-    let teams = gave (all_team_fields objects.0) _ p.0 objects.2 in
-    pairs_kept teams.0 (pairs_in d) p.0 teams.2 ∙ ap (λ (x : Head). Some x.pairs) p.2.whole
+    (field_parts p.0 d p.1 p.3.fields_are).1.pairs_are ∙ ap (λ (x : Head). Some x.pairs) p.3.whole
 
 -- each team has a code, and no two have one
 abbrev AreCoded : List Team → Type 0
@@ -71,8 +66,8 @@ AreCoded teams = All HasCode teams × AreDifferent (codes_of teams)
 are_coded : (d : Data) (head : Head) → head_of d ≡ Ok head → AreCoded head.teams
 are_coded d head e =
     let p = parts d head e in
-    let teams : p.1 ≡ head.teams = ap (λ (x : Head). x.teams) p.2.whole in
-    subst AreCoded teams (all_coded 0 p.0.teams p.1 p.2.teams_are, (tells_same_code.none p.1).0 p.2.distinct)
+    let teams : p.2 ≡ head.teams = ap (λ (x : Head). x.teams) p.3.whole in
+    subst AreCoded teams (all_coded 0 p.1.teams p.2 p.3.teams_are, (tells_same_code.none p.2).0 p.3.distinct)
 
 -- ---- a pair names two teams exactly where it names two codes
 
@@ -141,12 +136,14 @@ bad_in_head d head place e h =
     let wrong = subst (λ ps. IsFirstWrongPair (codes_in d) ps place) pairs h.2 in
     bad_of_wrong head.teams head.pairs place (are_coded d head e) (subst (λ cs. IsFirstWrongPair cs head.pairs place) (sym (codes_are d head e)) wrong)
 
+-- only the pairs of a pairing can be refused
 file_refused : (head : Head) (fault : FileFault) → (file_of head ≡ Err fault) ↔ (pairs_from head.teams 0 head.pairs ≡ Err fault)
-file_refused head fault = go (pairs_from head.teams 0 head.pairs)
+file_refused head fault = go head.kind (pairs_from head.teams 0 head.pairs)
   where
-    go : (r : Result (List Pair) FileFault) → (after r (λ pairs. Ok (file_with head pairs)) ≡ Err fault) ↔ (r ≡ Err fault)
-    go (Ok pairs) = ((λ e. cc), λ e. cc)
-    go (Err f) = ((λ e. let same : f ≡ fault = cc in ap (λ x. Err x) same), λ e. let same : f ≡ fault = cc in ap (λ x. Err x) same)
+    go : (kind : Kind) (r : Result (List Pair) FileFault)
+        → (after (limits_of kind head) (λ limits. after r (λ pairs. after (places_of kind head) (λ places. Ok (file_with head limits pairs places)))) ≡ Err fault) ↔ (r ≡ Err fault)
+    go Kind.Pairing (Ok pairs) = ((λ e. cc), λ e. cc)
+    go Kind.Pairing (Err f) = ((λ e. let same : f ≡ fault = cc in ap (λ x. Err x) same), λ e. let same : f ≡ fault = cc in ap (λ x. Err x) same)
 
 -- a head has no file exactly where its value has a bad pair
 refused_by_pair : (d : Data) (head : Head) (fault : FileFault) → head_of d ≡ Ok head → file_of head ≡ Err fault → (place : ℕ) × (fault ≡ FileFault.BadPair place) × HasBadPair d place

@@ -7,6 +7,7 @@ use Rattle.std.proofs.lemmas.Bool.Decides.{nat_tests}
 use Rattle.std.proofs.lemmas.Slice.Eq.{bytes_eq-Decides}
 use Rattle.serde_json.specs.Data.{Data}
 use Rattle.serde_json.specs.Find.{as_str}
+use Rattle.team_files.specs.declared.kind.Kind.{Kind}
 use Rattle.team_files.specs.declared.fault.FileFault.{FileFault}
 use Rattle.team_files.specs.declared.fault.Field.{Field}
 use Rattle.team_files.specs.declared.fields.TeamFields.{TeamFields}
@@ -18,17 +19,19 @@ use Rattle.team_files.specs.Characters.{is_capital, is_code, is_tag}
 use Rattle.team_files.specs.Answers.{after}
 use Rattle.team_files.specs.Members.{where_true, text_in, list_in, number_in, tag_of, tags_of, tags_in, letter_of}
 use Rattle.team_files.specs.Teams.{find_from, find}
-use Rattle.team_files.specs.Heads.{or_wrong, name_in, pot_in, team_fields, all_team_fields, objects_in, pairs_in, head_fields, too_many_fault, team_of, teams_from, pot_size, pot_size_fault, name_of, Head, head_of}
-use Rattle.team_files.proofs.HeadLaws.{gave, parts, few_pairs}
+use Rattle.team_files.specs.Heads.{or_wrong, name_in, pot_in, letter_in, team_fields, all_team_fields, too_many_fault, most_teams, team_of, teams_from, pot_size, pot_size_fault, name_of, Head, head_with}
+use Rattle.team_files.proofs.HeadLaws.{gave, Parts, parts, FieldParts, field_parts, few_pairs_of}
 use Rattle.team_files.proofs.CodeLaws.{distinct}
+use Rattle.rule_sets.specs.declared.limit.Limit.{Limit}
 use Rattle.rule_sets.specs.declared.pair.Pair.{Pair}
-use Rattle.rule_sets.specs.Files.{file_with, team_named, pair_at, pair_of, pairs_from}
+use Rattle.rule_sets.specs.declared.place.Place.{Place}
+use Rattle.rule_sets.specs.Files.{DrawFile, file_with, file_of, limits_of, places_of, team_named, pair_at, pair_of, pairs_from}
 use Rattle.rule_sets.specs.Forms.{HasCode, IsInPot, AreTags, HasTags, HasLetter, NamesTwoTeams, HasForm, FilesHaveForm}
 
 -- ---- the pots, tags and letters
 
-one_or_two : (n : ℕ) → (nat_le 1 n && nat_le n 2) ≡ true → (1 ≤ n) × (n ≤ 2)
-one_or_two n e = (grind (arith, nat_tests), grind (arith, nat_tests))
+one_of : (pots n : ℕ) → (nat_le 1 n && nat_le n pots) ≡ true → (1 ≤ n) × (n ≤ pots)
+one_of pots n e = (grind (arith, nat_tests), grind (arith, nat_tests))
 
 -- a value that was kept passed the test
 passed_test : {A : Type 0} (test : A → Bool) (value : Option A) (a : A) → option_and_then (λ x. where_true (test x) x) value ≡ Some a → test a ≡ true
@@ -75,9 +78,20 @@ letter_is (Some []) letter e = cc
 letter_is (Some (b ∷ [])) letter e = passed_test is_capital (Some b) letter e
 letter_is (Some (b ∷ c ∷ bs)) letter e = cc
 
+-- the first-round letter of a pairing's team
+abbrev IsLetter : Option ℕ → Type 0
+IsLetter letter = (l : ℕ) × (letter ≡ Some l) × (is_capital l ≡ true)
+
+letter_read : (kind : Kind) (d : Data) (letter : Option ℕ) → letter_in kind d ≡ Some letter → kind ≡ Kind.Pairing → IsLetter letter
+letter_read Kind.Pairing d letter e is = go (option_and_then letter_of (text_in (codes "group") d)) refl e
+  where
+    go : (o : Option ℕ) → option_and_then letter_of (text_in (codes "group") d) ≡ o → option_map (λ l. Some l) o ≡ Some letter → IsLetter letter
+    go None found h = cc
+    go (Some l) found h = (l, cc, letter_is (text_in (codes "group") d) l found)
+
 -- the fields of a team have what its object has
 fields_are : (code : Result (List ℕ) FileFault) (name : Result (Option (List ℕ)) FileFault) (pot : Option ℕ)
-    (tags : Option (List (List ℕ))) (letter : Option ℕ) (f : TeamFields)
+    (tags : Option (List (List ℕ))) (letter : Option (Option ℕ)) (f : TeamFields)
     → after code (λ c. after name (λ n. after (or_wrong pot Field.Pot) (λ p. after (or_wrong tags Field.Tags) (λ t. after (or_wrong letter Field.Group) (λ l.
     Ok (record { code = c; name = n; pot = p; tags = t; group_letter = l })))))) ≡ Ok f
     → (pot ≡ Some f.pot) × (tags ≡ Some f.tags) × (letter ≡ Some f.group_letter)
@@ -88,65 +102,65 @@ fields_are (Ok c) (Ok n) (Some p) None letter f e = cc
 fields_are (Ok c) (Ok n) (Some p) (Some t) None f e = cc
 fields_are (Ok c) (Ok n) (Some p) (Some t) (Some l) f e = (cc, cc, cc)
 
--- What the fields of a team are.
-record AreRead (f : TeamFields) : Type 0 where
-  pot : (1 ≤ f.pot) × (f.pot ≤ 2)
+-- What the fields of a team are, in a head of the kind with so many pots.
+record AreRead (kind : Kind) (pots : ℕ) (f : TeamFields) : Type 0 where
+  pot : (1 ≤ f.pot) × (f.pot ≤ pots)
   tags : AreTags f.tags
-  letter : is_capital f.group_letter ≡ true
+  letter : kind ≡ Kind.Pairing → IsLetter f.group_letter
 
-are_read : (d : Data) (f : TeamFields) → team_fields d ≡ Ok f → AreRead f
-are_read d f e =
+are_read : (kind : Kind) (pots : ℕ) (d : Data) (f : TeamFields) → team_fields kind pots d ≡ Ok f → AreRead kind pots f
+are_read kind pots d f e =
     let code = or_wrong (text_in (codes "code") d) Field.Code in
     let name = or_wrong (name_in d) Field.Name in
-    let text = text_in (codes "group") d in
-    let are = fields_are code name (pot_in d) (tags_in (codes "tags") d) (option_and_then letter_of text) f e in
+    let are = fields_are code name (pot_in pots d) (tags_in (codes "tags") d) (letter_in kind d) f e in
     record {
-      pot = one_or_two f.pot (passed_test (λ n. nat_le 1 n && nat_le n 2) (number_in (codes "pot") d) f.pot are.0);
+      pot = one_of pots f.pot (passed_test (λ n. nat_le 1 n && nat_le n pots) (number_in (codes "pot") d) f.pot are.0);
       tags = listed_tags (list_in (codes "tags") d) f.tags are.1;
-      letter = letter_is text f.group_letter are.2;
+      letter = letter_read kind d f.group_letter are.2;
     }
 
 -- the team of fields has them
-team_is : (i : ℕ) (f : TeamFields) (t : Team) → team_of i f ≡ Ok t → (t.pot ≡ f.pot) × (t.tags ≡ f.tags) × (t.group_letter ≡ Some f.group_letter)
+team_is : (i : ℕ) (f : TeamFields) (t : Team) → team_of i f ≡ Ok t → (t.pot ≡ f.pot) × (t.tags ≡ f.tags) × (t.group_letter ≡ f.group_letter)
 team_is i f t e = go (is_code f.code) e
   where
     go : (b : Bool)
-        → (if b then Ok (record { code = f.code; name = name_of f.code f.name; pot = f.pot; tags = f.tags; group_letter = Some f.group_letter }) else Err (FileFault.BadCode i)) ≡ Ok t
-        → (t.pot ≡ f.pot) × (t.tags ≡ f.tags) × (t.group_letter ≡ Some f.group_letter)
+        → (if b then Ok (record { code = f.code; name = name_of f.code f.name; pot = f.pot; tags = f.tags; group_letter = f.group_letter }) else Err (FileFault.BadCode i)) ≡ Ok t
+        → (t.pot ≡ f.pot) × (t.tags ≡ f.tags) × (t.group_letter ≡ f.group_letter)
     go true h = (cc, cc, cc)
     go false h = cc
 
--- what stands of each team that was read stands of all
-abbrev OfEachRead : (Team → Type 0) → Type 0
-OfEachRead Has = (i : ℕ) (f : TeamFields) (t : Team) → AreRead f → team_of i f ≡ Ok t → Has t
+module _ (kind : Kind) (pots : ℕ) where
+  -- what stands of each team that was read stands of all
+  abbrev OfEachRead : (Team → Type 0) → Type 0
+  OfEachRead Has = (i : ℕ) (f : TeamFields) (t : Team) → AreRead kind pots f → team_of i f ≡ Ok t → Has t
 
-all_have : (Has : Team → Type 0) → OfEachRead Has → (i : ℕ) (ds : List Data) (fs : List TeamFields) (ts : List Team)
-    → all_team_fields ds ≡ Ok fs → teams_from i fs ≡ Ok ts → All Has ts
-all_have Has each i [] fs ts e h =
-    let no_fields : fs ≡ [] = cc in
-    let no_teams : ts ≡ [] = ends (rw no_fields at h) in
-    rw no_teams (All-nil Has)
-  where
-    ends : teams_from i [] ≡ Ok ts → ts ≡ []
-    ends k = cc
-all_have Has each i (d ∷ ds) fs ts e h =
-    let first = gave (team_fields d) _ fs e in
-    let rest = gave (all_team_fields ds) (λ teams. Ok (first.0 ∷ teams)) fs first.2 in
-    let whole : fs ≡ first.0 ∷ rest.0 = cc in
-    let team = gave (team_of i first.0) _ ts (rw whole at h) in
-    let teams = gave (teams_from (i + 1) rest.0) (λ teams. Ok (team.0 ∷ teams)) ts team.2 in
-    let all : ts ≡ team.0 ∷ teams.0 = cc in
-    let stands : Has team.0 = each i first.0 team.0 (are_read d first.0 first.1) team.1 in
-    rw all (All-cons Has team.0 teams.0 stands (all_have Has each (i + 1) ds rest.0 teams.0 rest.1 teams.1))
+  all_have : (Has : Team → Type 0) → OfEachRead Has → (i : ℕ) (ds : List Data) (fs : List TeamFields) (ts : List Team)
+      → all_team_fields kind pots ds ≡ Ok fs → teams_from i fs ≡ Ok ts → All Has ts
+  all_have Has each i [] fs ts e h =
+      let no_fields : fs ≡ [] = cc in
+      let no_teams : ts ≡ [] = ends (rw no_fields at h) in
+      rw no_teams (All-nil Has)
+    where
+      ends : teams_from i [] ≡ Ok ts → ts ≡ []
+      ends k = cc
+  all_have Has each i (d ∷ ds) fs ts e h =
+      let first = gave (team_fields kind pots d) _ fs e in
+      let rest = gave (all_team_fields kind pots ds) (λ teams. Ok (first.0 ∷ teams)) fs first.2 in
+      let whole : fs ≡ first.0 ∷ rest.0 = cc in
+      let team = gave (team_of i first.0) _ ts (rw whole at h) in
+      let teams = gave (teams_from (i + 1) rest.0) (λ teams. Ok (team.0 ∷ teams)) ts team.2 in
+      let all : ts ≡ team.0 ∷ teams.0 = cc in
+      let stands : Has team.0 = each i first.0 team.0 (are_read kind pots d first.0 first.1) team.1 in
+      rw all (All-cons Has team.0 teams.0 stands (all_have Has each (i + 1) ds rest.0 teams.0 rest.1 teams.1))
 
-each_in_pot : OfEachRead (IsInPot 2)
-each_in_pot i f t read e = subst (λ (n : ℕ). (1 ≤ n) × (n ≤ 2)) (sym (team_is i f t e).0) read.pot
+  each_in_pot : OfEachRead (IsInPot pots)
+  each_in_pot i f t read e = subst (λ (n : ℕ). (1 ≤ n) × (n ≤ pots)) (sym (team_is i f t e).0) read.pot
 
-each_tagged : OfEachRead HasTags
-each_tagged i f t read e = subst AreTags (sym (team_is i f t e).1) read.tags
+  each_tagged : OfEachRead HasTags
+  each_tagged i f t read e = subst AreTags (sym (team_is i f t e).1) read.tags
 
-each_lettered : OfEachRead HasLetter
-each_lettered i f t read e = (f.group_letter, (team_is i f t e).2, read.letter)
+  each_lettered : kind ≡ Kind.Pairing → OfEachRead HasLetter
+  each_lettered is i f t read e = subst IsLetter (sym (team_is i f t e).2) (read.letter is)
 
 -- ---- the codes
 
@@ -154,7 +168,7 @@ coded : (i : ℕ) (f : TeamFields) (t : Team) → team_of i f ≡ Ok t → HasCo
 coded i f t e = go (is_code f.code) refl e
   where
     go : (b : Bool) → is_code f.code ≡ b
-        → (if b then Ok (record { code = f.code; name = name_of f.code f.name; pot = f.pot; tags = f.tags; group_letter = Some f.group_letter }) else Err (FileFault.BadCode i)) ≡ Ok t
+        → (if b then Ok (record { code = f.code; name = name_of f.code f.name; pot = f.pot; tags = f.tags; group_letter = f.group_letter }) else Err (FileFault.BadCode i)) ≡ Ok t
         → HasCode t
     go true is h = let same : f.code ≡ t.code = cc in ap is_code (sym same) ∙ is
     go false is h = cc
@@ -177,7 +191,7 @@ teams_size i (f ∷ fs) ts e =
     let all : ts ≡ team.0 ∷ teams.0 = cc in
     rw all (ap (λ n. suc n) (teams_size (i + 1) fs teams.0 teams.1))
 
-few_teams : (fields : HeadFields) → too_many_fault fields ≡ None → length fields.teams ≤ 40
+few_teams : (fields : HeadFields) → too_many_fault fields ≡ None → length fields.teams ≤ most_teams
 few_teams fields e = grind (arith, nat_tests)
 
 pub pairs_size : (teams : List Team) (i : ℕ) (ps : List HeadPair) (pairs : List Pair)
@@ -191,7 +205,7 @@ pairs_size teams i (p ∷ ps) pairs e =
 
 -- ---- the sizes of the pots
 
-sizes : (teams : List Team) → pot_size_fault teams ≡ None → (pot_size 1 teams ≢ 0) × (pot_size 2 teams ≡ pot_size 1 teams)
+sizes : (teams : List Team) → pot_size_fault Kind.Pairing teams ≡ None → (pot_size 1 teams ≢ 0) × (pot_size 2 teams ≡ pot_size 1 teams)
 sizes teams e = go (pot_size 1 teams) (pot_size 2 teams) e
   where
     go : (a b : ℕ)
@@ -269,53 +283,78 @@ all_name teams i (p ∷ ps) pairs e =
 
 -- ---- the file
 
-fields_kept : (teams : Result (List TeamFields) FileFault) (pairs : Result (List HeadPair) FileFault) (fields : HeadFields)
-    → after teams (λ ts. after pairs (λ ps. Ok (record { teams = ts; pairs = ps }))) ≡ Ok fields
-    → teams ≡ Ok fields.teams
-fields_kept (Err x) pairs fields e = cc
-fields_kept (Ok ts) (Err x) fields e = cc
-fields_kept (Ok ts) (Ok ps) fields e = cc
+-- What a pairing's head is, beside its teams and its pairs.
+record IsPairingHead (fields : HeadFields) (teams : List Team) : Type 0 where
+  groups : fields.groups ≡ 0
+  pots : fields.pots ≡ 2
+  sizes : (pot_size 1 teams ≢ 0) × (pot_size 2 teams ≡ pot_size 1 teams)
 
-all_read : (Has : Team → Type 0) → OfEachRead Has → (d : Data) (fields : HeadFields) (teams : List Team)
-    → head_fields d ≡ Ok fields → teams_from 0 fields.teams ≡ Ok teams → All Has teams
-all_read Has each d fields teams e h =
-    let objects = gave (or_wrong (objects_in (codes "teams") d) Field.Teams) _ fields e in
-    all_have Has each 0 objects.0 fields.teams teams (fields_kept (all_team_fields objects.0) (or_wrong (pairs_in d) Field.Pairs) fields objects.2) h
+pairing_head : (kind : Kind) (d : Data) (objects : List Data) (fields : HeadFields) (teams : List Team)
+    → FieldParts kind d objects fields → pot_size_fault kind teams ≡ None → kind ≡ Kind.Pairing → IsPairingHead fields teams
+pairing_head Kind.Pairing d objects fields teams p size is =
+    let groups = p.groups_are in
+    let pots = p.pots_are in
+    record { groups = cc; pots = cc; sizes = sizes teams size }
 
-form_of : (d : Data) (head : Head) (pairs : List Pair) → head_of d ≡ Ok head → pairs_from head.teams 0 head.pairs ≡ Ok pairs
-    → HasForm (file_with head pairs)
-form_of d head pairs e h =
-    let p = parts d head e in
-    let fields = p.0 in
-    let read = p.2 in
-    let teams : p.1 ≡ head.teams = ap (λ x. x.teams) read.whole in
-    let made : teams_from 0 fields.teams ≡ Ok head.teams = rw teams at read.teams_are in
-    let size = sizes head.teams (rw teams at read.sizes) in
-    let pots : head.pots ≡ 2 = sym (ap (λ x. x.pots) read.whole) in
+no_limits : (kind : Kind) (head : Head) (limits : List Limit) → limits_of kind head ≡ Ok limits → kind ≡ Kind.Pairing → limits ≡ []
+no_limits Kind.Pairing head limits e is = cc
+
+no_places : (kind : Kind) (head : Head) (places : List Place) → places_of kind head ≡ Ok places → kind ≡ Kind.Pairing → places ≡ []
+no_places Kind.Pairing head places e is = cc
+
+-- the file of a head that has these parts
+form_of : (d : Data) (kind : Kind) (fields : HeadFields) (teams : List Team) (limits : List Limit) (pairs : List Pair) (places : List Place)
+    → (let head = head_with kind fields teams in
+    Parts d head kind fields teams → limits_of kind head ≡ Ok limits → pairs_from teams 0 fields.pairs ≡ Ok pairs → places_of kind head ≡ Ok places
+    → HasForm (file_with head limits pairs places))
+form_of d kind fields teams limits pairs places read l h q =
+    let head = head_with kind fields teams in
+    let of_fields = field_parts kind d fields read.fields_are in
+    let objects = of_fields.0 in
+    let members = of_fields.1 in
+    let is_head = pairing_head kind d objects fields teams members read.sizes in
     record {
       common = record {
-        few_teams = rw (teams_size 0 fields.teams head.teams made) (few_teams fields read.few);
-        codes = all_coded 0 fields.teams head.teams made;
-        distinct_codes = distinct head.teams (rw teams at read.distinct);
-        in_pots = subst (λ n. All (IsInPot n) head.teams) (sym pots) (all_read (IsInPot 2) each_in_pot d fields head.teams read.fields_are made);
-        tags = all_read HasTags each_tagged d fields head.teams read.fields_are made;
-        few_pairs = rw (pairs_size head.teams 0 head.pairs pairs h) (few_pairs head (d, e));
-        pairs = all_name head.teams 0 head.pairs pairs h;
+        few_teams = rw (teams_size 0 fields.teams teams read.teams_are) (few_teams fields read.few);
+        codes = all_coded 0 fields.teams teams read.teams_are;
+        distinct_codes = distinct teams read.distinct;
+        in_pots = all_have kind fields.pots (IsInPot fields.pots) (each_in_pot kind fields.pots) 0 objects fields.teams teams members.teams_are read.teams_are;
+        tags = all_have kind fields.pots HasTags (each_tagged kind fields.pots) 0 objects fields.teams teams members.teams_are read.teams_are;
+        few_pairs = rw (pairs_size teams 0 fields.pairs pairs h) (few_pairs_of fields read.few);
+        pairs = all_name teams 0 fields.pairs pairs h;
       };
-      pairing = λ kind. record {
-        pots = pots;
-        groups = sym (ap (λ x. x.groups) read.whole);
-        limits = refl;
-        places = refl;
-        not_empty = size.0;
-        same_size = size.1;
-        letters = all_read HasLetter each_lettered d fields head.teams read.fields_are made;
+      pairing = λ is. record {
+        pots = (is_head is).pots;
+        groups = (is_head is).groups;
+        limits = no_limits kind head limits l is;
+        places = no_places kind head places q is;
+        not_empty = (is_head is).sizes.0;
+        same_size = (is_head is).sizes.1;
+        letters = all_have kind fields.pots HasLetter (each_lettered kind fields.pots is) 0 objects fields.teams teams members.teams_are read.teams_are;
       };
     }
 
+-- What the file of a head went through.
+pub record FileParts (head : Head) (limits : List Limit) (pairs : List Pair) (places : List Place) (file : DrawFile) : Type 0 where
+  pub limits_are : limits_of head.kind head ≡ Ok limits
+  pub pairs_are : pairs_from head.teams 0 head.pairs ≡ Ok pairs
+  pub places_are : places_of head.kind head ≡ Ok places
+  pub whole : file_with head limits pairs places ≡ file
+
+pub file_parts : (head : Head) (file : DrawFile) → file_of head ≡ Ok file
+    → (limits : List Limit) × (pairs : List Pair) × (places : List Place) × FileParts head limits pairs places file
+file_parts head file e =
+    let l = gave (limits_of head.kind head) _ file e in
+    let p = gave (pairs_from head.teams 0 head.pairs) _ file l.2 in
+    let q = gave (places_of head.kind head) _ file p.2 in
+    (l.0, p.0, q.0, record { limits_are = l.1; pairs_are = p.1; places_are = q.1; whole = cc })
+
 pub files_have_form : FilesHaveForm
 files_have_form file formed =
-    let head = formed.0 in
-    let made = gave (pairs_from head.teams 0 head.pairs) _ file formed.2 in
-    let is : file_with head made.0 ≡ file = cc in
-    subst HasForm is (form_of formed.1.0 head made.0 formed.1.1 made.1)
+    let p = parts formed.1.0 formed.0 formed.1.1 in
+    let head = head_with p.0 p.1 p.2 in
+    let same : formed.0 ≡ head = sym p.3.whole in
+    let made : file_of head ≡ Ok file = subst (λ h. file_of h ≡ Ok file) same formed.2 in
+    let read : Parts formed.1.0 head p.0 p.1 p.2 = subst (λ h. Parts formed.1.0 h p.0 p.1 p.2) same p.3 in
+    let f = file_parts head file made in
+    subst HasForm f.3.whole (form_of formed.1.0 p.0 p.1 p.2 f.0 f.1 f.2 read f.3.limits_are f.3.pairs_are f.3.places_are)

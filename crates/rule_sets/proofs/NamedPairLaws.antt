@@ -11,9 +11,9 @@ use Rattle.team_files.specs.Teams.{find}
 use Rattle.team_files.proofs.CodeLaws.{stands}
 use Rattle.team_files.proofs.HeadLaws.{gave}
 use Rattle.rule_sets.specs.declared.pair.Pair.{Pair}
-use Rattle.rule_sets.specs.Files.{team_named, pair_of, pairs_from, file_with}
+use Rattle.rule_sets.specs.Files.{team_named, pair_of, pairs_from}
 use Rattle.rule_sets.specs.NamedPairs.{NamesCodes, HasPairsOf, FilesHavePairs}
-use Rattle.rule_sets.proofs.FileForms.{pair_is, pairs_size}
+use Rattle.rule_sets.proofs.FileForms.{pair_is, pairs_size, file_parts}
 
 -- the team that a text names has it as its code
 pub named_has : (teams : List Team) (text : List ℕ) (id : TeamId) → team_named teams text ≡ Some id → HasCodeAt (codes_of teams) id.0 text
@@ -47,6 +47,5 @@ each_names teams i (p ∷ ps) pairs e (suc k) named pair at here =
 
 pub files_have_pairs : FilesHavePairs
 files_have_pairs head file e =
-    let made = gave (pairs_from head.teams 0 head.pairs) _ file e in
-    let is : file_with head made.0 ≡ file = cc in
-    subst (HasPairsOf head) is (record { number = pairs_size head.teams 0 head.pairs made.0 made.1; each = each_names head.teams 0 head.pairs made.0 made.1 })
+    let f = file_parts head file e in
+    subst (HasPairsOf head) f.3.whole (record { number = pairs_size head.teams 0 head.pairs f.1 f.3.pairs_are; each = each_names head.teams 0 head.pairs f.1 f.3.pairs_are })

@@ -46,13 +46,23 @@ pairs_from teams i (p ∷ ps) = after (pair_of teams i p) (λ pair. after (pairs
 
 -- ---- the file of a head, or its first fault
 
--- the head's file with these pairs; a pairing has no limits and no fixed places
-abbrev pub file_with : Head → List Pair → DrawFile
-file_with head pairs = record { kind = head.kind; groups = head.groups; pots = head.pots; teams = head.teams; limits = []; pairs = pairs; places = [] }
+-- The limits, and the fixed places looked up. A pairing has none.
+abbrev pub limits_of : Kind → Head → Result (List Limit) FileFault
+limits_of Kind.Pairing head = Ok []
+
+abbrev pub places_of : Kind → Head → Result (List Place) FileFault
+places_of Kind.Pairing head = Ok []
+
+-- the head's file with these limits, pairs and places
+abbrev pub file_with : Head → List Limit → List Pair → List Place → DrawFile
+file_with head limits pairs places = record { kind = head.kind; groups = head.groups; pots = head.pots; teams = head.teams; limits = limits; pairs = pairs; places = places }
 
 abbrev pub file_of : Head → Result DrawFile FileFault
 file_of head =
-    after (pairs_from head.teams 0 head.pairs) (λ pairs. Ok (file_with head pairs))
+    after (limits_of head.kind head) (λ limits.
+    after (pairs_from head.teams 0 head.pairs) (λ pairs.
+    after (places_of head.kind head) (λ places.
+    Ok (file_with head limits pairs places))))
 
 -- The file is that of some head, so that none of the faults holds of it.
 abbrev pub IsWellFormed : DrawFile → Type 0

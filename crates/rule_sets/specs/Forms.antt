@@ -43,14 +43,14 @@ pub record NamesTwoTeams (teams : List Team) (pair : Pair) : Type 0 where
 
 -- What the files of all kinds share.
 pub record HasCommonForm (file : DrawFile) : Type 0 where
-  -- it has at most 40 teams, each with a code, and no two have one code
+  -- it has no more teams than a file may have, each with a code, and no two have one code
   pub few_teams : length file.teams ≤ most_teams
   pub codes : All HasCode file.teams
   pub distinct_codes : HaveDistinctCodes file.teams
   -- each team stands in a pot and has its tags
   pub in_pots : All (IsInPot file.pots) file.teams
   pub tags : All HasTags file.teams
-  -- it forbids at most 64 pairs, each of two different teams
+  -- it forbids no more pairs than a file may, each of two different teams
   pub few_pairs : length file.pairs ≤ most_pairs
   pub pairs : All (NamesTwoTeams file.teams) file.pairs
 

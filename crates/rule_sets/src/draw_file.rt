@@ -47,19 +47,24 @@ impl Model for DrawFile {
 }
 
 impl DrawFile {
-    /// The file of a head with its pairs looked up. Takes no memory.
-    pub(crate) fn of_pairing(alloc: Global, head: Head, pairs: Vec<Pair>) -> DrawFile
-        requires { file_of head ≡ Ok (file_with head pairs.items) }
-        ensures { result ≡ file_with head pairs.items }
+    /// The file of a head with what is looked up. Takes no memory.
+    pub(crate) fn of_head(
+        head: Head,
+        limits: Vec<Limit>,
+        pairs: Vec<Pair>,
+        places: Vec<Place>,
+    ) -> DrawFile
+        requires { file_of head ≡ Ok (file_with head limits.items pairs.items places.items) }
+        ensures { result ≡ file_with head limits.items pairs.items places.items }
     {
         DrawFile {
             kind: head.kind(),
             groups: head.groups(),
             pots: head.pots(),
             teams: head.into_teams(),
-            limits: Vec::new(alloc),
+            limits,
             pairs,
-            places: Vec::new(alloc),
+            places,
         }
     }
 

@@ -10,7 +10,7 @@ ghost use Rattle.rule_sets.specs.NamedPairs.{FilesHavePairs};
 use crate::draw_file::DrawFile;
 use crate::pair::Pair;
 use std::alloc::Global;
-use team_files::{Code, FileFault, Head, HeadPair, TeamId, Teams};
+use team_files::{Code, FileFault, Head, HeadPair, Kind, TeamId, Teams};
 
 /// The draw file of a head, with its forbidden pairs looked up. `BadPair` tells the place, counted
 /// from 0, of the first pair that does not name two different teams of the head; else the only
@@ -18,8 +18,18 @@ use team_files::{Code, FileFault, Head, HeadPair, TeamId, Teams};
 pub fn rules_from(alloc: Global, head: Head) -> Result<DrawFile, FileFault>
     ensures { Gives result (file_of head) }
 {
+    match head.kind() {
+        Kind::Pairing => pairing_file(alloc, head),
+    }
+}
+
+/// The draw file of a pairing's head. It has no limits and no fixed places.
+fn pairing_file(alloc: Global, head: Head) -> Result<DrawFile, FileFault>
+    requires { head.kind ≡ Kind.Pairing }
+    ensures { Gives result (file_of head) }
+{
     let pairs = pairs_of(alloc, head.teams(), head.pairs())?;
-    Ok(DrawFile::of_pairing(alloc, head, pairs))
+    Ok(DrawFile::of_head(head, Vec::new(alloc), pairs, Vec::new(alloc)))
 }
 
 /// The pairs that a head names, or the first that is none.
@@ -59,9 +69,9 @@ fn pair_of(teams: &Teams, place: u32, pair: &HeadPair) -> Result<Pair, FileFault
     }
 }
 
-/// Each well-formed draw file has the form of one: a pairing of at most 40 teams in two pots of one
+/// Each well-formed draw file has the form of one: a pairing of at most `MOST_TEAMS` teams in two pots of one
 /// size, each with one tag or two different ones and with the letter of its first-round group, and
-/// at most 64 forbidden pairs of two different teams. Does nothing.
+/// at most `MOST_PAIRS` forbidden pairs of two different teams. Does nothing.
 pub fn law_files_have_form()
     ensures { FilesHaveForm }
 {}

@@ -3,6 +3,7 @@ use Rattle.std.proofs.Common.{◌≡◌, ℕ, suc, ◌+◌, Bool, true, false, n
 use Rattle.std.specs.Prelude.{◌==◌, nat_lt, codes, if◌then◌else◌, position, count_by, is_none, unwrap_or, option_map, option_and_then}
 use Rattle.std.specs.List.{list_all, position_or_len, fold}
 use Rattle.std.specs.Option.{option_or}
+use Rattle.std.specs.Result.{result_err}
 use Rattle.std.proofs.lemmas.Bool.Decides.{nat_tests}
 use Rattle.serde_json.specs.Data.{Data}
 use Rattle.serde_json.specs.Find.{get}
@@ -10,14 +11,17 @@ use Rattle.team_files.specs.declared.fault.Field.{Field}
 use Rattle.team_files.specs.declared.fault.FileFault.{FileFault}
 use Rattle.team_files.specs.declared.fields.TeamFields.{TeamFields}
 use Rattle.team_files.specs.declared.fields.HeadFields.{HeadFields}
+use Rattle.team_files.specs.declared.kind.Kind.{Kind}
+use Rattle.team_files.specs.declared.head_limit.HeadLimit.{HeadLimit}
 use Rattle.team_files.specs.declared.head_pair.HeadPair.{HeadPair}
+use Rattle.team_files.specs.declared.head_place.HeadPlace.{HeadPlace}
 use Rattle.team_files.specs.declared.team.Team.{Team}
 use Rattle.team_files.specs.Characters.{is_code}
 use Rattle.team_files.specs.Answers.{after}
-use Rattle.team_files.specs.Members.{is_object, list_of, text_in, list_in, letter_of, tags_in, where_true}
-use Rattle.team_files.specs.Heads.{or_wrong, name_in, pot_in, team_fields, all_team_fields, objects_in, pair_of_texts, pairs_of_texts, pairs_in, head_fields, name_of, teams_from, pot_size}
+use Rattle.team_files.specs.Members.{is_object, list_of, text_in, list_in, tags_in, where_true}
+use Rattle.team_files.specs.Heads.{or_wrong, name_in, pot_in, letter_in, team_fields, all_team_fields, groups_in, pots_in, objects_in, limits_in, pair_of_texts, pairs_of_texts, pairs_in, places_in, head_fields, name_of, teams_from, pot_size}
 use Rattle.team_files.specs.Codes.{codes_of}
-use Rattle.team_files.specs.Faults.{team_values, pair_values, code_at, pot_at, codes_in, pots_in, wrong_if, wrong_in_team, wrong_in_teams, wrong_fault}
+use Rattle.team_files.specs.Faults.{kind_at, pots_at, team_values, pair_values, code_at, pot_at, codes_in, team_pots, wrong_if, wrong_in_team, wrong_in_teams, wrong_fault}
 
 -- ---- the fields of a team
 
@@ -25,7 +29,7 @@ abbrev pub TeamTold : Result TeamFields FileFault → Option FileFault → Optio
 TeamTold (Ok f) wrong code pot = (wrong ≡ None) × (code ≡ Some f.code) × (pot ≡ Some f.pot)
 TeamTold (Err g) wrong code pot = wrong ≡ Some g
 
-team_parts : (code : Option (List ℕ)) (name : Option (Option (List ℕ))) (pot : Option ℕ) (tags : Option (List (List ℕ))) (letter : Option ℕ)
+team_parts : (code : Option (List ℕ)) (name : Option (Option (List ℕ))) (pot : Option ℕ) (tags : Option (List (List ℕ))) (letter : Option (Option ℕ))
     → TeamTold (after (or_wrong code Field.Code) (λ c. after (or_wrong name Field.Name) (λ n. after (or_wrong pot Field.Pot) (λ p. after (or_wrong tags Field.Tags) (λ t. after (or_wrong letter Field.Group) (λ l.
     Ok (record { code = c; name = n; pot = p; tags = t; group_letter = l })))))))
     (option_or (wrong_if (is_none code) Field.Code) (option_or (wrong_if (is_none name) Field.Name) (option_or (wrong_if (is_none pot) Field.Pot) (option_or (wrong_if (is_none tags) Field.Tags) (wrong_if (is_none letter) Field.Group)))))
@@ -37,28 +41,29 @@ team_parts (Some c) (Some n) (Some p) None letter = refl
 team_parts (Some c) (Some n) (Some p) (Some t) None = refl
 team_parts (Some c) (Some n) (Some p) (Some t) (Some l) = (refl, refl, refl)
 
-team_told : (d : Data) → TeamTold (team_fields d) (wrong_in_team d) (text_in (codes "code") d) (pot_in d)
-team_told d = team_parts (text_in (codes "code") d) (name_in d) (pot_in d) (tags_in (codes "tags") d) (option_and_then letter_of (text_in (codes "group") d))
+team_told : (kind : Kind) (pots : ℕ) (d : Data) → TeamTold (team_fields kind pots d) (wrong_in_team kind pots d) (text_in (codes "code") d) (pot_in pots d)
+team_told kind pots d = team_parts (text_in (codes "code") d) (name_in d) (pot_in pots d) (tags_in (codes "tags") d) (letter_in kind d)
 
-abbrev pub TeamsTold : Result (List TeamFields) FileFault → Option FileFault → List Data → Type 0
-TeamsTold (Ok fs) wrong ds = (wrong ≡ None) × (length fs ≡ length ds) × (map (λ f. f.code) fs ≡ map code_at ds) × (map (λ f. f.pot) fs ≡ map pot_at ds)
-TeamsTold (Err g) wrong ds = wrong ≡ Some g
+abbrev pub TeamsTold : ℕ → Result (List TeamFields) FileFault → Option FileFault → List Data → Type 0
+TeamsTold pots (Ok fs) wrong ds = (wrong ≡ None) × (length fs ≡ length ds) × (map (λ f. f.code) fs ≡ map code_at ds) × (map (λ f. f.pot) fs ≡ map (pot_at pots) ds)
+TeamsTold pots (Err g) wrong ds = wrong ≡ Some g
 
-one_more : (r : Result TeamFields FileFault) (w : Option FileFault) (s : Result (List TeamFields) FileFault) (ws : Option FileFault) (d : Data) (ds : List Data)
-    → TeamTold r w (text_in (codes "code") d) (pot_in d) → TeamsTold s ws ds
-    → TeamsTold (after r (λ team. after s (λ teams. Ok (team ∷ teams)))) (option_or w ws) (d ∷ ds)
-one_more (Err g) w s ws d ds h k = rw h refl
-one_more (Ok f) w (Err g) ws d ds h k = rw h.0 k
-one_more (Ok f) w (Ok fs) ws d ds h k = (
+one_more : (pots : ℕ) (r : Result TeamFields FileFault) (w : Option FileFault) (s : Result (List TeamFields) FileFault) (ws : Option FileFault) (d : Data) (ds : List Data)
+    → TeamTold r w (text_in (codes "code") d) (pot_in pots d) → TeamsTold pots s ws ds
+    → TeamsTold pots (after r (λ team. after s (λ teams. Ok (team ∷ teams)))) (option_or w ws) (d ∷ ds)
+one_more pots (Err g) w s ws d ds h k = rw h refl
+one_more pots (Ok f) w (Err g) ws d ds h k = rw h.0 k
+one_more pots (Ok f) w (Ok fs) ws d ds h k = (
   rw h.0 k.0,
   ap (λ n. suc n) k.1,
   rw h.1 (ap (λ l. f.code ∷ l) k.2),
   rw h.2 (ap (λ l. f.pot ∷ l) k.3),
 )
 
-teams_told : (ds : List Data) → TeamsTold (all_team_fields ds) (wrong_in_teams ds) ds
-teams_told [] = (refl, refl, refl, refl)
-teams_told (d ∷ ds) = one_more (team_fields d) (wrong_in_team d) (all_team_fields ds) (wrong_in_teams ds) d ds (team_told d) (teams_told ds)
+teams_told : (kind : Kind) (pots : ℕ) (ds : List Data) → TeamsTold pots (all_team_fields kind pots ds) (wrong_in_teams kind pots ds) ds
+teams_told kind pots [] = (refl, refl, refl, refl)
+teams_told kind pots (d ∷ ds) =
+    one_more pots (team_fields kind pots d) (wrong_in_team kind pots d) (all_team_fields kind pots ds) (wrong_in_teams kind pots ds) d ds (team_told kind pots d) (teams_told kind pots ds)
 
 -- ---- the fields of the head
 
@@ -95,32 +100,51 @@ FieldsTold (Ok fields) wrong d =
     (wrong ≡ None)
     × (length fields.teams ≡ length (team_values d))
     × (map (λ f. f.code) fields.teams ≡ codes_in d)
-    × (map (λ f. f.pot) fields.teams ≡ pots_in d)
+    × (map (λ f. f.pot) fields.teams ≡ team_pots d)
     × (length fields.pairs ≡ length (pair_values d))
 FieldsTold (Err g) wrong d = wrong ≡ Some g
 
-pub fields_told : (d : Data) → FieldsTold (head_fields d) (wrong_fault d) d
-fields_told d = go (objects_in (codes "teams") d) refl
-  where
-    inner : (os : List Data) (r : Result (List TeamFields) FileFault) (p : Option (List HeadPair))
-        → team_values d ≡ os → TeamsTold r (wrong_in_teams os) os → pairs_in d ≡ p
-        → FieldsTold (after r (λ teams. after (or_wrong p Field.Pairs) (λ pairs. Ok (record { teams = teams; pairs = pairs })))) (option_or (wrong_in_teams (team_values d)) (wrong_if (is_none p) Field.Pairs)) d
-    inner os (Err g) p vals h e = rw vals (rw h refl)
-    inner os (Ok fs) None vals h e = rw vals (rw h.0 refl)
-    inner os (Ok fs) (Some ps) vals h e = (
-      rw vals (rw h.0 refl),
-      rw vals h.1,
-      rw vals h.2,
-      rw vals h.3,
-      pairs_length (get (codes "pairs") d) ps e,
-    )
+-- the teams, and the members behind them
+behind_teams : (d : Data) (groups : ℕ) (os : List Data) (r : Result (List TeamFields) FileFault) (wrong : Option FileFault)
+    (limits : Result (List HeadLimit) FileFault) (p : Option (List HeadPair)) (places : Result (List HeadPlace) FileFault)
+    → team_values d ≡ os → TeamsTold (pots_at d) r wrong os → pairs_in d ≡ p
+    → FieldsTold
+    (after r (λ ts. after limits (λ ls. after (or_wrong p Field.Pairs) (λ ps. after places (λ qs.
+    Ok (record { groups = groups; pots = pots_at d; teams = ts; limits = ls; pairs = ps; places = qs }))))))
+    (option_or wrong (option_or (result_err limits) (option_or (wrong_if (is_none p) Field.Pairs) (result_err places)))) d
+behind_teams d groups os (Err g) wrong limits p places vals h e = rw h refl
+behind_teams d groups os (Ok fs) wrong (Err g) p places vals h e = rw h.0 refl
+behind_teams d groups os (Ok fs) wrong (Ok ls) None places vals h e = rw h.0 refl
+behind_teams d groups os (Ok fs) wrong (Ok ls) (Some ps) (Err g) vals h e = rw h.0 refl
+behind_teams d groups os (Ok fs) wrong (Ok ls) (Some ps) (Ok qs) vals h e = (
+  rw h.0 refl,
+  rw vals h.1,
+  rw vals h.2,
+  rw vals h.3,
+  pairs_length (get (codes "pairs") d) ps e,
+)
 
-    go : (o : Option (List Data)) → objects_in (codes "teams") d ≡ o
-        → FieldsTold
-        (after (or_wrong o Field.Teams) (λ objects. after (all_team_fields objects) (λ teams. after (or_wrong (pairs_in d) Field.Pairs) (λ pairs. Ok (record { teams = teams; pairs = pairs })))))
-        (option_or (wrong_if (is_none o) Field.Teams) (option_or (wrong_in_teams (team_values d)) (wrong_if (is_none (pairs_in d)) Field.Pairs))) d
-    go None e = refl
-    go (Some os) e = inner os (all_team_fields os) (pairs_in d) (objects_are (list_in (codes "teams") d) os e) (teams_told os) refl
+-- the members of the head as its kind has them
+fields_of_kind : (d : Data) (kind : Kind) (groups pots : Option ℕ) (objects : Option (List Data))
+    (limits : Result (List HeadLimit) FileFault) (places : Result (List HeadPlace) FileFault)
+    → pots_at d ≡ unwrap_or pots 0 → objects_in (codes "teams") d ≡ objects
+    → FieldsTold
+    (after (or_wrong groups Field.Groups) (λ gs. after (or_wrong pots Field.Pots) (λ n. after (or_wrong objects Field.Teams) (λ os. after (all_team_fields kind n os) (λ ts.
+    after limits (λ ls. after (or_wrong (pairs_in d) Field.Pairs) (λ ps. after places (λ qs.
+    Ok (record { groups = gs; pots = n; teams = ts; limits = ls; pairs = ps; places = qs })))))))))
+    (option_or (wrong_if (is_none groups) Field.Groups) (option_or (wrong_if (is_none pots) Field.Pots) (option_or (wrong_if (is_none objects) Field.Teams)
+    (option_or (wrong_in_teams kind (pots_at d) (team_values d)) (option_or (result_err limits) (option_or (wrong_if (is_none (pairs_in d)) Field.Pairs) (result_err places))))))) d
+fields_of_kind d kind None pots objects limits places is e = refl
+fields_of_kind d kind (Some gs) None objects limits places is e = refl
+fields_of_kind d kind (Some gs) (Some n) None limits places is e = refl
+fields_of_kind d kind (Some gs) (Some n) (Some os) limits places is e =
+    let vals = objects_are (list_in (codes "teams") d) os e in
+    rw (← is) (rw vals (behind_teams d gs os (all_team_fields kind (pots_at d) os) (wrong_in_teams kind (pots_at d) os) limits (pairs_in d) places vals (teams_told kind (pots_at d) os) refl))
+
+pub fields_told : (d : Data) → FieldsTold (head_fields (kind_at d) d) (wrong_fault (kind_at d) d) d
+fields_told d =
+    let kind = kind_at d in
+    fields_of_kind d kind (groups_in kind d) (pots_in kind d) (objects_in (codes "teams") d) (limits_in kind d) (places_in kind d) refl refl
 
 -- ---- the codes
 
@@ -135,7 +159,7 @@ CodesTold (Err g) bad fs = bad ≡ Some g
 
 one_code : (b : Bool) (i : ℕ) (f : TeamFields) (s : Result (List Team) FileFault) (bad : Option FileFault) (fs : List TeamFields) → CodesTold s bad fs
     → CodesTold
-    (after (if b then Ok (record { code = f.code; name = name_of f.code f.name; pot = f.pot; tags = f.tags; group_letter = Some f.group_letter }) else Err (FileFault.BadCode i)) (λ team. after s (λ teams. Ok (team ∷ teams))))
+    (after (if b then Ok (record { code = f.code; name = name_of f.code f.name; pot = f.pot; tags = f.tags; group_letter = f.group_letter }) else Err (FileFault.BadCode i)) (λ team. after s (λ teams. Ok (team ∷ teams))))
     (if b then bad else Some (FileFault.BadCode i)) (f ∷ fs)
 one_code false i f s bad fs h = refl
 one_code true i f (Err g) bad fs h = h

@@ -1,23 +1,24 @@
 -- Reading a value as a head tells the first fault of the table.
 use Rattle.std.proofs.Common.{◌≡◌, ℕ, zero, suc, ◌+◌, ◌<◌, ◌≤◌, ◌⊎◌, inl, inr, Bool, true, false, not, List, [], ◌∷◌, length, map, slice_get, refl, sym, ap, subst, ◌∙◌, Option, Some, None, Result, Ok, Err, arith}
-use Rattle.std.specs.Prelude.{◌==◌, nat_lt, codes, if◌then◌else◌, position, is_none, option_map, option_and_then}
+use Rattle.std.specs.Prelude.{◌==◌, nat_lt, bytes_eq, codes, if◌then◌else◌, position, is_none, unwrap_or, ok_or, option_map, option_and_then}
 use Rattle.std.specs.Option.{option_or}
 use Rattle.std.specs.Result.{result_err}
 use Rattle.std.proofs.lemmas.Bool.{cases_order}
 use Rattle.std.proofs.lemmas.Slice.Eq.{bytes_eq-Decides}
 use Rattle.serde_json.specs.Data.{Data}
 use Rattle.serde_json.specs.Find.{get, as_str}
+use Rattle.team_files.specs.declared.kind.Kind.{Kind}
 use Rattle.team_files.specs.declared.fault.Field.{Field}
 use Rattle.team_files.specs.declared.fault.FileFault.{FileFault}
 use Rattle.team_files.specs.declared.fields.HeadFields.{HeadFields}
 use Rattle.team_files.specs.declared.team.Team.{Team}
 use Rattle.team_files.specs.Characters.{is_code}
 use Rattle.team_files.specs.Answers.{after, unless}
+use Rattle.team_files.specs.Kinds.{kind_text, kind_named, is_not_built}
 use Rattle.team_files.specs.Members.{lacks, is_object, text_in, list_in}
-use Rattle.team_files.specs.Heads.{Head, object_fault, fault_of_kind, fault_of_kind_text, kind_fault, missing_if, missing_in_team, missing_in_teams, missing_in_list, missing_fault, head_fields, too_many_fault, teams_from, same_code_fault, pot_size, pot_size_fault, pairing_head, head_of}
+use Rattle.team_files.specs.Heads.{Head, object_fault, fault_of_name, kind_of_text, kind_of, missing_if, missing_in_head, missing_letter, missing_in_team, missing_in_teams, missing_in_list, missing_fault, groups_in, pots_in, objects_in, limits_in, pairs_in, places_in, head_fields, too_many_fault, most_teams, most_pairs, teams_from, same_code_fault, pot_size, pot_size_fault, head_with, head_of}
 use Rattle.team_files.specs.Codes.{codes_of, IsFirstRepeat}
-use Rattle.team_files.specs.Faults
-use Rattle.team_files.specs.Faults.{team_values, pair_values, codes_in, pots_in, is_pairing, is_not_built, wrong_if, wrong_in_team, wrong_in_teams, wrong_fault, too_many_of, size_of_pot, pot_size_of, Holds, order_of, IsFirstFault, TellsFirstFault}
+use Rattle.team_files.specs.Faults.{team_values, pair_values, kind_at, pots_at, codes_in, team_pots, wrong_if, wrong_in_team, wrong_in_teams, wrong_fault, too_many_of, size_of_pot, pot_size_in, Holds, order_of, IsFirstFault, TellsFirstFault}
 use Rattle.team_files.proofs.CodeLaws.{FirstRepeatTold, first_told, told_back}
 use Rattle.team_files.proofs.FaultSteps.{FieldsTold, fields_told, CodesTold, codes_told, counted}
 
@@ -41,11 +42,20 @@ bad_in d = option_map (λ place. FileFault.BadCode place) (position (λ c. not (
 abbrev many_in : Data → Option FileFault
 many_in d = too_many_of (length (team_values d)) (length (pair_values d))
 
+abbrev kind_in : Data → Option FileFault
+kind_in d = result_err (kind_of d)
+
+abbrev missing_at : Data → Option FileFault
+missing_at d = missing_fault (kind_at d) d
+
+abbrev wrong_at : Data → Option FileFault
+wrong_at d = wrong_fault (kind_at d) d
+
 abbrev sizes_in : Data → Option FileFault
-sizes_in d = pot_size_of (size_of_pot 1 d) (size_of_pot 2 d)
+sizes_in d = pot_size_in (kind_at d) d
 
 abbrev table : Data → List (Option FileFault)
-table d = object_fault d ∷ kind_fault d ∷ missing_fault d ∷ wrong_fault d ∷ many_in d ∷ bad_in d ∷ same_in d ∷ sizes_in d ∷ []
+table d = object_fault d ∷ kind_in d ∷ missing_at d ∷ wrong_at d ∷ many_in d ∷ bad_in d ∷ same_in d ∷ sizes_in d ∷ []
 
 abbrev first_of : List (Option FileFault) → Option FileFault
 first_of [] = None
@@ -70,36 +80,65 @@ past : {A : Type 0} (o : Option FileFault) (rest : Result A FileFault) (os : Opt
 past None rest os h = h
 past (Some f) rest os h = refl
 
-sizes_are : (d : Data) (ts : List Team) → map (λ t. t.pot) ts ≡ pots_in d → pot_size_fault ts ≡ sizes_in d
-sizes_are d ts e =
+sizes_are : (kind : Kind) (d : Data) (ts : List Team) → map (λ t. t.pot) ts ≡ team_pots d → pot_size_fault kind ts ≡ pot_size_in kind d
+sizes_are Kind.Pairing d ts e =
     let one : pot_size 1 ts ≡ size_of_pot 1 d = rw (← e) (counted 1 ts) in
     let two : pot_size 2 ts ≡ size_of_pot 2 d = rw (← e) (counted 2 ts) in
     rw (← one) (rw (← two) refl)
 
-last : (d : Data) (fields : HeadFields) (ts : List Team) → codes_of ts ≡ codes_in d → map (λ t. t.pot) ts ≡ pots_in d
-    → result_err (unless (same_code_fault ts) (unless (pot_size_fault ts) (Ok (pairing_head ts fields.pairs)))) ≡ first_of (same_in d ∷ sizes_in d ∷ [])
-last d fields ts e p =
-    let same : same_code_fault ts ≡ same_in d = same_codes ts (only_codes (codes_in d)) (e ∙ sym (codes_only (codes_in d))) in
-    let sizes = sizes_are d ts p in
-    rw (← same) (rw (← sizes) (past (same_code_fault ts) _ _ (past (pot_size_fault ts) _ _ refl)))
+-- The steps of reading a head of a kind, each from its end to that of the whole.
+module _ (d : Data) where
+  last : (fields : HeadFields) (ts : List Team) → codes_of ts ≡ codes_in d → map (λ t. t.pot) ts ≡ team_pots d
+      → result_err (unless (same_code_fault ts) (unless (pot_size_fault (kind_at d) ts) (Ok (head_with (kind_at d) fields ts)))) ≡ first_of (same_in d ∷ sizes_in d ∷ [])
+  last fields ts e p =
+      let same : same_code_fault ts ≡ same_in d = same_codes ts (only_codes (codes_in d)) (e ∙ sym (codes_only (codes_in d))) in
+      let sizes = sizes_are (kind_at d) d ts p in
+      rw (← same) (rw (← sizes) (past (same_code_fault ts) _ _ (past (pot_size_fault (kind_at d) ts) _ _ refl)))
 
-with_codes : (d : Data) (fields : HeadFields) (r : Result (List Team) FileFault)
-    → map (λ f. f.code) fields.teams ≡ codes_in d → map (λ f. f.pot) fields.teams ≡ pots_in d → CodesTold r (bad_in d) fields.teams
-    → result_err (after r (λ teams. unless (same_code_fault teams) (unless (pot_size_fault teams) (Ok (pairing_head teams fields.pairs))))) ≡ first_of (bad_in d ∷ same_in d ∷ sizes_in d ∷ [])
-with_codes d fields (Err g) e p h = rw h refl
-with_codes d fields (Ok ts) e p h = rw h.0 (last d fields ts (h.1 ∙ e) (h.2 ∙ p))
+  with_codes : (fields : HeadFields) (r : Result (List Team) FileFault)
+      → map (λ f. f.code) fields.teams ≡ codes_in d → map (λ f. f.pot) fields.teams ≡ team_pots d → CodesTold r (bad_in d) fields.teams
+      → result_err (after r (λ teams. unless (same_code_fault teams) (unless (pot_size_fault (kind_at d) teams) (Ok (head_with (kind_at d) fields teams))))) ≡ first_of (bad_in d ∷ same_in d ∷ sizes_in d ∷ [])
+  with_codes fields (Err g) e p h = rw h refl
+  with_codes fields (Ok ts) e p h = rw h.0 (last fields ts (h.1 ∙ e) (h.2 ∙ p))
 
-with_fields : (d : Data) (r : Result HeadFields FileFault) → FieldsTold r (wrong_fault d) d
-    → result_err (after r (λ fields. unless (too_many_fault fields) (after (teams_from 0 fields.teams) (λ teams. unless (same_code_fault teams) (unless (pot_size_fault teams) (Ok (pairing_head teams fields.pairs)))))))
-    ≡ first_of (wrong_fault d ∷ many_in d ∷ bad_in d ∷ same_in d ∷ sizes_in d ∷ [])
-with_fields d (Err g) h = rw h refl
-with_fields d (Ok fields) h =
-    let many : too_many_fault fields ≡ many_in d = rw (← h.1) (rw (← h.4) refl) in
-    let codes : CodesTold (teams_from 0 fields.teams) (bad_in d) fields.teams = rw (← h.2) (codes_told fields.teams) in
-    rw h.0 (rw (← many) (past (too_many_fault fields) _ _ (with_codes d fields (teams_from 0 fields.teams) h.2 h.3 codes)))
+  with_fields : (r : Result HeadFields FileFault) → FieldsTold r (wrong_at d) d
+      → result_err (after r (λ fields. unless (too_many_fault fields) (after (teams_from 0 fields.teams) (λ teams. unless (same_code_fault teams) (unless (pot_size_fault (kind_at d) teams) (Ok (head_with (kind_at d) fields teams)))))))
+      ≡ first_of (wrong_at d ∷ many_in d ∷ bad_in d ∷ same_in d ∷ sizes_in d ∷ [])
+  with_fields (Err g) h = rw h refl
+  with_fields (Ok fields) h =
+      let many : too_many_fault fields ≡ many_in d = rw (← h.1) (rw (← h.4) refl) in
+      let codes : CodesTold (teams_from 0 fields.teams) (bad_in d) fields.teams = rw (← h.2) (codes_told fields.teams) in
+      rw h.0 (rw (← many) (past (too_many_fault fields) _ _ (with_codes fields (teams_from 0 fields.teams) h.2 h.3 codes)))
+
+  -- the kind that is read is the one that the value names
+  pub kind_read : (kind : Kind) → kind_of d ≡ Ok kind → kind_at d ≡ kind
+  kind_read kind e = go (lacks (codes "kind") d) e
+    where
+      named : (text : List ℕ) (o : Option Kind) → ok_or o (fault_of_name text) ≡ Ok kind → unwrap_or o Kind.Pairing ≡ kind
+      named text None h = cc
+      named text (Some k) h = cc
+
+      texts : (o : Option (List ℕ)) → kind_of_text o ≡ Ok kind → unwrap_or (option_and_then kind_named o) Kind.Pairing ≡ kind
+      texts None h = cc
+      texts (Some text) h = named text (kind_named text) h
+
+      go : (b : Bool) → (if b then Err (FileFault.FieldMissing Field.Kind) else kind_of_text (text_in (codes "kind") d)) ≡ Ok kind → kind_at d ≡ kind
+      go true h = cc
+      go false h = texts (text_in (codes "kind") d) h
+
+  -- what follows the kind
+  abbrev of_kind : Kind → Result Head FileFault
+  of_kind kind =
+      unless (missing_fault kind d) (after (head_fields kind d) (λ fields. unless (too_many_fault fields) (after (teams_from 0 fields.teams) (λ teams.
+      unless (same_code_fault teams) (unless (pot_size_fault kind teams) (Ok (head_with kind fields teams)))))))
+
+  with_kind : (r : Result Kind FileFault) → kind_of d ≡ r
+      → result_err (after r (λ kind. of_kind kind)) ≡ first_of (result_err r ∷ missing_at d ∷ wrong_at d ∷ many_in d ∷ bad_in d ∷ same_in d ∷ sizes_in d ∷ [])
+  with_kind (Err g) e = refl
+  with_kind (Ok kind) e = rw (← kind_read kind e) (past (missing_at d) _ _ (with_fields (head_fields (kind_at d) d) (fields_told d)))
 
 goes_through : (d : Data) → result_err (head_of d) ≡ first_of (table d)
-goes_through d = past (object_fault d) _ _ (past (kind_fault d) _ _ (past (missing_fault d) _ _ (with_fields d (head_fields d) (fields_told d))))
+goes_through d = past (object_fault d) _ _ (with_kind d (kind_of d) refl)
 
 -- ---- each entry of the table is the fact of its fault
 
@@ -131,35 +170,34 @@ absent : (b : Bool) (member : Field) → NamesAbsent (FileFault.FieldMissing mem
 absent true member h = h
 absent false member h = tt
 
-absent_in_team : (d : Data) → Only NamesAbsent (missing_in_team d)
-absent_in_team d = go (not (is_object d))
-  where
-    inner : Option FileFault
-    inner = missing_in_team d
+-- what a kind asks for names no kind
+absent_letter : (kind : Kind) (d : Data) → Only NamesAbsent (missing_letter kind d)
+absent_letter Kind.Pairing d = absent (lacks (codes "group") d) Field.Group tt
 
+absent_of_head : (kind : Kind) (d : Data) → Only NamesAbsent (missing_in_head kind d)
+absent_of_head Kind.Pairing d = absent (lacks (codes "teams") d) Field.Teams tt
+
+absent_in_team : (kind : Kind) (d : Data) → Only NamesAbsent (missing_in_team kind d)
+absent_in_team kind d = go (not (is_object d))
+  where
     go : (b : Bool) → Only NamesAbsent (if b then None else
-        option_or (missing_if (lacks (codes "code") d) Field.Code) (option_or (missing_if (lacks (codes "pot") d) Field.Pot) (option_or (missing_if (lacks (codes "tags") d) Field.Tags) (missing_if (lacks (codes "group") d) Field.Group))))
+        option_or (missing_if (lacks (codes "code") d) Field.Code) (option_or (missing_if (lacks (codes "pot") d) Field.Pot) (option_or (missing_if (lacks (codes "tags") d) Field.Tags) (missing_letter kind d))))
     go true = tt
     go false =
         either NamesAbsent _ _ (absent (lacks (codes "code") d) Field.Code tt)
         (either NamesAbsent _ _ (absent (lacks (codes "pot") d) Field.Pot tt)
-        (either NamesAbsent _ _ (absent (lacks (codes "tags") d) Field.Tags tt)
-        (absent (lacks (codes "group") d) Field.Group tt)))
+        (either NamesAbsent _ _ (absent (lacks (codes "tags") d) Field.Tags tt) (absent_letter kind d)))
 
-absent_in_teams : (ds : List Data) → Only NamesAbsent (missing_in_teams ds)
-absent_in_teams [] = tt
-absent_in_teams (d ∷ ds) = either NamesAbsent (missing_in_team d) (missing_in_teams ds) (absent_in_team d) (absent_in_teams ds)
+absent_in_teams : (kind : Kind) (ds : List Data) → Only NamesAbsent (missing_in_teams kind ds)
+absent_in_teams kind [] = tt
+absent_in_teams kind (d ∷ ds) = either NamesAbsent (missing_in_team kind d) (missing_in_teams kind ds) (absent_in_team kind d) (absent_in_teams kind ds)
 
-absent_in_head : (d : Data) → Only NamesAbsent (missing_fault d)
-absent_in_head d = either NamesAbsent (missing_if (lacks (codes "teams") d) Field.Teams) _ (absent (lacks (codes "teams") d) Field.Teams tt) (go (list_in (codes "teams") d))
+absent_in_head : (kind : Kind) (d : Data) → Only NamesAbsent (missing_fault kind d)
+absent_in_head kind d = either NamesAbsent (missing_in_head kind d) _ (absent_of_head kind d) (go (list_in (codes "teams") d))
   where
-    go : (l : Option (List Data)) → Only NamesAbsent (missing_in_list l)
+    go : (l : Option (List Data)) → Only NamesAbsent (missing_in_list kind l)
     go None = tt
-    go (Some ds) = absent_in_teams ds
-
-wrong : (b : Bool) (member : Field) → NamesWrong (FileFault.FieldWrong member) → Only NamesWrong (wrong_if b member)
-wrong true member h = h
-wrong false member h = tt
+    go (Some ds) = absent_in_teams kind ds
 
 wrong_team : (a b c e g : Bool) → Only NamesWrong (option_or (wrong_if a Field.Code) (option_or (wrong_if b Field.Name) (option_or (wrong_if c Field.Pot) (option_or (wrong_if e Field.Tags) (wrong_if g Field.Group)))))
 wrong_team true b c e g = tt
@@ -169,23 +207,40 @@ wrong_team false false false true g = tt
 wrong_team false false false false true = tt
 wrong_team false false false false false = tt
 
-wrong_teams : (ds : List Data) → Only NamesWrong (wrong_in_teams ds)
-wrong_teams [] = tt
-wrong_teams (d ∷ ds) = either NamesWrong (wrong_in_team d) (wrong_in_teams ds) (wrong_team _ _ _ _ _) (wrong_teams ds)
+wrong_teams : (kind : Kind) (pots : ℕ) (ds : List Data) → Only NamesWrong (wrong_in_teams kind pots ds)
+wrong_teams kind pots [] = tt
+wrong_teams kind pots (d ∷ ds) = either NamesWrong (wrong_in_team kind pots d) (wrong_in_teams kind pots ds) (wrong_team _ _ _ _ _) (wrong_teams kind pots ds)
 
-wrong_in_head : (d : Data) → Only NamesWrong (wrong_fault d)
-wrong_in_head d = either NamesWrong _ _ (wrong _ Field.Teams tt) (either NamesWrong (wrong_in_teams (team_values d)) _ (wrong_teams (team_values d)) (wrong _ Field.Pairs tt))
+wrong_limits : (kind : Kind) (d : Data) → Only NamesWrong (result_err (limits_in kind d))
+wrong_limits Kind.Pairing d = tt
+
+wrong_places : (kind : Kind) (d : Data) → Only NamesWrong (result_err (places_in kind d))
+wrong_places Kind.Pairing d = tt
+
+-- a wrong member that is no kind, or what stands behind it
+wrong_or : (b : Bool) (member : Field) (rest : Option FileFault) → NamesWrong (FileFault.FieldWrong member) → Only NamesWrong rest → Only NamesWrong (option_or (wrong_if b member) rest)
+wrong_or true member rest h k = h
+wrong_or false member rest h k = k
+
+wrong_in_head : (kind : Kind) (d : Data) → Only NamesWrong (wrong_fault kind d)
+wrong_in_head kind d =
+    wrong_or (is_none (groups_in kind d)) Field.Groups _ tt
+    (wrong_or (is_none (pots_in kind d)) Field.Pots _ tt
+    (wrong_or (is_none (objects_in (codes "teams") d)) Field.Teams _ tt
+    (either NamesWrong (wrong_in_teams kind (pots_at d) (team_values d)) _ (wrong_teams kind (pots_at d) (team_values d))
+    (either NamesWrong (result_err (limits_in kind d)) _ (wrong_limits kind d)
+    (wrong_or (is_none (pairs_in d)) Field.Pairs (result_err (places_in kind d)) tt (wrong_places kind d))))))
 
 -- what stands at a place of the table
 abbrev Meant : Data → ℕ → FileFault → Type 0
 Meant d k f = Holds d f × (order_of f ≡ k + 2)
 
-absent_meant : (d : Data) (f : FileFault) → NamesAbsent f → missing_fault d ≡ Some f → Meant d 2 f
+absent_meant : (d : Data) (f : FileFault) → NamesAbsent f → missing_at d ≡ Some f → Meant d 2 f
 absent_meant d (FileFault.FieldMissing Field.Kind) n e = absurd n
 absent_meant d (FileFault.FieldMissing member) n e = (e, refl)
 absent_meant d _ n e = absurd n
 
-wrong_meant : (d : Data) (f : FileFault) → NamesWrong f → wrong_fault d ≡ Some f → Meant d 3 f
+wrong_meant : (d : Data) (f : FileFault) → NamesWrong f → wrong_at d ≡ Some f → Meant d 3 f
 wrong_meant d (FileFault.FieldWrong Field.Kind) n e = absurd n
 wrong_meant d (FileFault.FieldWrong member) n e = (e, refl)
 wrong_meant d _ n e = absurd n
@@ -197,25 +252,28 @@ object_meant d f e = go (is_object d) refl e
     go true is h = cc
     go false is h = let same : FileFault.NotObject ≡ f = cc in subst (Meant d 0) same (is, refl)
 
-kind_meant : (d : Data) (f : FileFault) → kind_fault d ≡ Some f → Meant d 1 f
+kind_meant : (d : Data) (f : FileFault) → kind_in d ≡ Some f → Meant d 1 f
 kind_meant d f e = go (lacks (codes "kind") d) refl e
   where
-    known : (text : List ℕ) (a b : Bool) → text_in (codes "kind") d ≡ Some text → is_pairing text ≡ a → is_not_built text ≡ b
-        → (if a then None else (if b then Some FileFault.KindNotBuilt else Some (FileFault.KindUnknown text))) ≡ Some f → Meant d 1 f
-    known text true b t p q h = cc
-    known text false true t p q h = let same : FileFault.KindNotBuilt ≡ f = cc in subst (Meant d 1) same ((text, t, q), refl)
-    known text false false t p q h = let same : FileFault.KindUnknown text ≡ f = cc in subst (Meant d 1) same ((t, p, q), refl)
+    unknown : (text : List ℕ) (b : Bool) → text_in (codes "kind") d ≡ Some text → kind_named text ≡ None → is_not_built text ≡ b
+        → Some (if b then FileFault.KindNotBuilt else FileFault.KindUnknown text) ≡ Some f → Meant d 1 f
+    unknown text true t p q h = let same : FileFault.KindNotBuilt ≡ f = cc in subst (Meant d 1) same ((text, t, q), refl)
+    unknown text false t p q h = let same : FileFault.KindUnknown text ≡ f = cc in subst (Meant d 1) same ((t, p, q), refl)
 
-    texts : (o : Option (List ℕ)) → lacks (codes "kind") d ≡ false → text_in (codes "kind") d ≡ o → fault_of_kind_text o ≡ Some f → Meant d 1 f
+    named : (text : List ℕ) (o : Option Kind) → text_in (codes "kind") d ≡ Some text → kind_named text ≡ o → result_err (ok_or o (fault_of_name text)) ≡ Some f → Meant d 1 f
+    named text (Some kind) t p h = cc
+    named text None t p h = unknown text (is_not_built text) t p refl h
+
+    texts : (o : Option (List ℕ)) → lacks (codes "kind") d ≡ false → text_in (codes "kind") d ≡ o → result_err (kind_of_text o) ≡ Some f → Meant d 1 f
     texts None is t h = let same : FileFault.FieldWrong Field.Kind ≡ f = cc in subst (Meant d 1) same ((is, t), refl)
-    texts (Some text) is t h = known text (is_pairing text) (is_not_built text) t refl refl h
+    texts (Some text) is t h = named text (kind_named text) t refl h
 
-    go : (b : Bool) → lacks (codes "kind") d ≡ b → (if b then Some (FileFault.FieldMissing Field.Kind) else fault_of_kind_text (text_in (codes "kind") d)) ≡ Some f → Meant d 1 f
+    go : (b : Bool) → lacks (codes "kind") d ≡ b → result_err (if b then Err (FileFault.FieldMissing Field.Kind) else kind_of_text (text_in (codes "kind") d)) ≡ Some f → Meant d 1 f
     go true is h = let same : FileFault.FieldMissing Field.Kind ≡ f = cc in subst (Meant d 1) same (is, refl)
     go false is h = texts (text_in (codes "kind") d) is refl h
 
 many_meant : (d : Data) (f : FileFault) → many_in d ≡ Some f → Meant d 4 f
-many_meant d f e = go (nat_lt 40 (length (team_values d))) (nat_lt 64 (length (pair_values d))) e e
+many_meant d f e = go (nat_lt most_teams (length (team_values d))) (nat_lt most_pairs (length (pair_values d))) e e
   where
     go : (a b : Bool) → (if a then Some (FileFault.TooMany Field.Teams (length (team_values d))) else (if b then Some (FileFault.TooMany Field.Pairs (length (pair_values d))) else None)) ≡ Some f
         → many_in d ≡ Some f → Meant d 4 f
@@ -235,13 +293,22 @@ same_meant d f e =
     let t = first_told (only_codes (codes_in d)) f e in
     subst (Meant d 6) (sym t.2) ((t.0, subst (λ cs. IsFirstRepeat cs t.0 t.1) (codes_only (codes_in d)) t.3), refl)
 
-sizes_meant : (d : Data) (f : FileFault) → sizes_in d ≡ Some f → Meant d 7 f
-sizes_meant d f e = go (size_of_pot 1 d == 0) (size_of_pot 2 d == size_of_pot 1 d) e e
+-- what is wrong with the pots is told of a pot
+abbrev IsPotSize : FileFault → Type 0
+IsPotSize f = (pot : ℕ) × (number : ℕ) × (FileFault.PotSize pot number ≡ f)
+
+sizes_told : (kind : Kind) (d : Data) (f : FileFault) → pot_size_in kind d ≡ Some f → IsPotSize f
+sizes_told Kind.Pairing d f e = go (size_of_pot 1 d == 0) (size_of_pot 2 d == size_of_pot 1 d) e
   where
-    go : (a b : Bool) → (if a then Some (FileFault.PotSize 1 0) else (if b then None else Some (FileFault.PotSize 2 (size_of_pot 2 d)))) ≡ Some f → sizes_in d ≡ Some f → Meant d 7 f
-    go true b h k = let same : FileFault.PotSize 1 0 ≡ f = cc in subst (Meant d 7) same (k ∙ ap (λ x. Some x) (sym same), refl)
-    go false true h k = cc
-    go false false h k = let same : FileFault.PotSize 2 (size_of_pot 2 d) ≡ f = cc in subst (Meant d 7) same (k ∙ ap (λ x. Some x) (sym same), refl)
+    go : (a b : Bool) → (if a then Some (FileFault.PotSize 1 0) else (if b then None else Some (FileFault.PotSize 2 (size_of_pot 2 d)))) ≡ Some f → IsPotSize f
+    go true b h = (1, 0, cc)
+    go false true h = cc
+    go false false h = (2, size_of_pot 2 d, cc)
+
+sizes_meant : (d : Data) (f : FileFault) → sizes_in d ≡ Some f → Meant d 7 f
+sizes_meant d f e =
+    let told = sizes_told (kind_at d) d f e in
+    subst (Meant d 7) told.2 (e ∙ ap (λ x. Some x) (sym told.2), refl)
 
 -- the entry at a place of a list
 abbrev EntryAt : List (Option FileFault) → ℕ → FileFault → Type 0
@@ -252,9 +319,9 @@ inside o f e = cc
 
 meant : (d : Data) (k : ℕ) (f : FileFault) → EntryAt (table d) k f → Meant d k f
 meant d zero f e = object_meant d f (inside (object_fault d) f e)
-meant d (suc zero) f e = kind_meant d f (inside (kind_fault d) f e)
-meant d (suc (suc zero)) f e = let h = inside (missing_fault d) f e in absent_meant d f (only NamesAbsent (missing_fault d) f (absent_in_head d) h) h
-meant d (suc (suc (suc zero))) f e = let h = inside (wrong_fault d) f e in wrong_meant d f (only NamesWrong (wrong_fault d) f (wrong_in_head d) h) h
+meant d (suc zero) f e = kind_meant d f (inside (kind_in d) f e)
+meant d (suc (suc zero)) f e = let h = inside (missing_at d) f e in absent_meant d f (only NamesAbsent (missing_at d) f (absent_in_head (kind_at d) d) h) h
+meant d (suc (suc (suc zero))) f e = let h = inside (wrong_at d) f e in wrong_meant d f (only NamesWrong (wrong_at d) f (wrong_in_head (kind_at d) d) h) h
 meant d (suc (suc (suc (suc zero)))) f e = many_meant d f (inside (many_in d) f e)
 meant d (suc (suc (suc (suc (suc zero))))) f e = bad_meant d f (inside (bad_in d) f e)
 meant d (suc (suc (suc (suc (suc (suc zero)))))) f e = same_meant d f (inside (same_in d) f e)
@@ -273,28 +340,29 @@ text_not_lacking d text e = go (get (codes "kind") d) e
     go None h = cc
     go (Some v) h = refl
 
-not_pairing : (text : List ℕ) → is_not_built text ≡ true → is_pairing text ≡ false
-not_pairing text e = go (is_pairing text) refl
+-- a name of a kind that is not built is that of no kind
+not_named : (text : List ℕ) → is_not_built text ≡ true → kind_named text ≡ None
+not_named text e = go (bytes_eq text (kind_text Kind.Pairing)) refl
   where
-    go : (b : Bool) → is_pairing text ≡ b → is_pairing text ≡ false
-    go false is = is
+    go : (b : Bool) → bytes_eq text (kind_text Kind.Pairing) ≡ b → (if b then Some Kind.Pairing else None) ≡ None
+    go false is = refl
     go true is =
-        let same : text ≡ codes "pairing" = (bytes_eq-Decides text (codes "pairing")).0 is in
-        let built : is_not_built (codes "pairing") ≡ true = rw same at e in
+        let same : text ≡ kind_text Kind.Pairing = (bytes_eq-Decides text (kind_text Kind.Pairing)).0 is in
+        let built : is_not_built (kind_text Kind.Pairing) ≡ true = rw same at e in
         cc
 
-kind_stands : (d : Data) (text : List ℕ) (f : FileFault) → text_in (codes "kind") d ≡ Some text → fault_of_kind text ≡ Some f → kind_fault d ≡ Some f
+kind_stands : (d : Data) (text : List ℕ) (f : FileFault) → text_in (codes "kind") d ≡ Some text → result_err (kind_of_text (Some text)) ≡ Some f → kind_in d ≡ Some f
 kind_stands d text f t h = rw (text_not_lacking d text t) (rw t h)
 
 stands_all : (d : Data) (f : FileFault) → Holds d f → Stands d f
 stands_all d FileFault.NotJson h = absurd h
 stands_all d FileFault.NotObject h = let e : object_fault d ≡ Some FileFault.NotObject = rw h refl in (0, ap (λ o. Some o) e, refl)
 stands_all d (FileFault.KindUnknown text) h =
-    let told : fault_of_kind text ≡ Some (FileFault.KindUnknown text) = rw h.1 (rw h.2 refl) in
+    let told : result_err (kind_of_text (Some text)) ≡ Some (FileFault.KindUnknown text) = rw h.1 (rw h.2 refl) in
     (1, ap (λ o. Some o) (kind_stands d text (FileFault.KindUnknown text) h.0 told), refl)
-stands_all d (FileFault.FieldMissing Field.Kind) h = let e : kind_fault d ≡ Some (FileFault.FieldMissing Field.Kind) = rw h refl in (1, ap (λ o. Some o) e, refl)
+stands_all d (FileFault.FieldMissing Field.Kind) h = let e : kind_in d ≡ Some (FileFault.FieldMissing Field.Kind) = rw h refl in (1, ap (λ o. Some o) e, refl)
 stands_all d (FileFault.FieldMissing member) h = (2, ap (λ o. Some o) h, refl)
-stands_all d (FileFault.FieldWrong Field.Kind) h = let e : kind_fault d ≡ Some (FileFault.FieldWrong Field.Kind) = rw h.0 (rw h.1 refl) in (1, ap (λ o. Some o) e, refl)
+stands_all d (FileFault.FieldWrong Field.Kind) h = let e : kind_in d ≡ Some (FileFault.FieldWrong Field.Kind) = rw h.0 (rw h.1 refl) in (1, ap (λ o. Some o) e, refl)
 stands_all d (FileFault.FieldWrong member) h = (3, ap (λ o. Some o) h, refl)
 stands_all d (FileFault.TooMany what number) h = (4, ap (λ o. Some o) h, refl)
 stands_all d (FileFault.BadCode place) h =
@@ -309,7 +377,7 @@ stands_all d (FileFault.BadPair place) h = absurd h
 stands_all d (FileFault.BadPlace place) h = absurd h
 stands_all d FileFault.NoMemory h = absurd h
 stands_all d FileFault.KindNotBuilt h =
-    let told : fault_of_kind h.0 ≡ Some FileFault.KindNotBuilt = rw (not_pairing h.0 h.2) (rw h.2 refl) in
+    let told : result_err (kind_of_text (Some h.0)) ≡ Some FileFault.KindNotBuilt = rw (not_named h.0 h.2) (rw h.2 refl) in
     (1, ap (λ o. Some o) (kind_stands d h.0 FileFault.KindNotBuilt h.1 told), refl)
 
 -- ---- the first entry

@@ -5,3 +5,4 @@ pub mod Elements
 pub mod FaultSteps
 pub mod FaultTable
 pub mod HeadLaws
+pub mod TeamSteps

@@ -1,12 +1,15 @@
 -- The table of a head's faults: when each holds of a value, and which is told first (this project's own).
-use Rattle.std.specs.Prelude.{◌≡◌, ℕ, ◌≤◌, ◌↔◌, ◌==◌, ◌||◌, not, bytes_eq, nat_lt, codes, if◌then◌else◌, Bool, true, false, List, [], ◌∷◌, map, length, position, count_by, Option, Some, None, is_none, unwrap_or, option_and_then, Ok, Err}
+use Rattle.std.specs.Prelude.{◌≡◌, ℕ, ◌≤◌, ◌↔◌, ◌==◌, not, nat_lt, codes, if◌then◌else◌, Bool, true, false, List, [], ◌∷◌, map, length, position, count_by, Option, Some, None, is_none, unwrap_or, option_and_then, Ok, Err}
 use Rattle.std.specs.Option.{option_or}
+use Rattle.std.specs.Result.{result_err}
 use Rattle.serde_json.specs.Data.{Data}
+use Rattle.team_files.specs.declared.kind.Kind.{Kind}
 use Rattle.team_files.specs.declared.fault.Field.{Field}
 use Rattle.team_files.specs.declared.fault.FileFault.{FileFault}
 use Rattle.team_files.specs.Characters.{is_code}
-use Rattle.team_files.specs.Members.{lacks, is_object, text_in, list_in, letter_of, tags_in}
-use Rattle.team_files.specs.Heads.{Head, name_in, pot_in, objects_in, pairs_in, missing_fault, most_teams, most_pairs, head_of}
+use Rattle.team_files.specs.Kinds.{kind_named, is_not_built}
+use Rattle.team_files.specs.Members.{lacks, is_object, text_in, list_in, tags_in}
+use Rattle.team_files.specs.Heads.{Head, name_in, pot_in, letter_in, groups_in, pots_in, objects_in, limits_in, pairs_in, places_in, missing_fault, most_teams, most_pairs, head_of}
 use Rattle.team_files.specs.Codes.{IsFirstRepeat}
 
 -- ---- what a value says
@@ -18,18 +21,26 @@ team_values d = unwrap_or (list_in (codes "teams") d) []
 abbrev pub pair_values : Data → List Data
 pair_values d = unwrap_or (list_in (codes "pairs") d) []
 
+-- The kind and the number of pots. Where the value gives none, that is told first, and the faults behind it are those of a
+-- pairing, or of no pots.
+abbrev pub kind_at : Data → Kind
+kind_at d = unwrap_or (option_and_then kind_named (text_in (codes "kind") d)) Kind.Pairing
+
+abbrev pub pots_at : Data → ℕ
+pots_at d = unwrap_or (pots_in (kind_at d) d) 0
+
 -- the codes and the pots of the teams, in file order
 abbrev pub code_at : Data → List ℕ
 code_at team = unwrap_or (text_in (codes "code") team) []
 
-abbrev pub pot_at : Data → ℕ
-pot_at team = unwrap_or (pot_in team) 0
+abbrev pub pot_at : ℕ → Data → ℕ
+pot_at pots team = unwrap_or (pot_in pots team) 0
 
 abbrev pub codes_in : Data → List (List ℕ)
 codes_in d = map code_at (team_values d)
 
-abbrev pub pots_in : Data → List ℕ
-pots_in d = map pot_at (team_values d)
+abbrev pub team_pots : Data → List ℕ
+team_pots d = map (pot_at (pots_at d)) (team_values d)
 
 -- ---- 2 NotObject
 
@@ -47,14 +58,8 @@ HasWrongKind d = (lacks (codes "kind") d ≡ false) × (text_in (codes "kind") d
 abbrev pub HasKind : Data → List ℕ → Type 0
 HasKind d text = text_in (codes "kind") d ≡ Some text
 
-abbrev pub is_pairing : List ℕ → Bool
-is_pairing text = bytes_eq text (codes "pairing")
-
-abbrev pub is_not_built : List ℕ → Bool
-is_not_built text = bytes_eq text (codes "group") || bytes_eq text (codes "league")
-
 abbrev pub HasUnknownKind : Data → List ℕ → Type 0
-HasUnknownKind d text = HasKind d text × (is_pairing text ≡ false) × (is_not_built text ≡ false)
+HasUnknownKind d text = HasKind d text × (kind_named text ≡ None) × (is_not_built text ≡ false)
 
 abbrev pub HasKindNotBuilt : Data → Type 0
 HasKindNotBuilt d = (text : List ℕ) × HasKind d text × (is_not_built text ≡ true)
@@ -62,35 +67,39 @@ HasKindNotBuilt d = (text : List ℕ) × HasKind d text × (is_not_built text �
 -- ---- 4 FieldMissing: the first needed member that is absent, in the head and then in each team
 
 abbrev pub MissesField : Data → Field → Type 0
-MissesField d member = missing_fault d ≡ Some (FileFault.FieldMissing member)
+MissesField d member = missing_fault (kind_at d) d ≡ Some (FileFault.FieldMissing member)
 
--- ---- 5 FieldWrong: the first member of another form or range, in the head and then in each team; last `pairs`
+-- ---- 5 FieldWrong: the first member of another form or range, where the members of each team stand behind `teams`
 
 abbrev pub wrong_if : Bool → Field → Option FileFault
 wrong_if wrong field = if wrong then Some (FileFault.FieldWrong field) else None
 
-abbrev pub wrong_in_team : Data → Option FileFault
-wrong_in_team d =
+abbrev pub wrong_in_team : Kind → ℕ → Data → Option FileFault
+wrong_in_team kind pots d =
     option_or (wrong_if (is_none (text_in (codes "code") d)) Field.Code)
     (option_or (wrong_if (is_none (name_in d)) Field.Name)
-    (option_or (wrong_if (is_none (pot_in d)) Field.Pot)
+    (option_or (wrong_if (is_none (pot_in pots d)) Field.Pot)
     (option_or (wrong_if (is_none (tags_in (codes "tags") d)) Field.Tags)
-    (wrong_if (is_none (option_and_then letter_of (text_in (codes "group") d))) Field.Group))))
+    (wrong_if (is_none (letter_in kind d)) Field.Group))))
 
-abbrev pub wrong_in_teams : List Data → Option FileFault
-wrong_in_teams [] = None
-wrong_in_teams (d ∷ ds) = option_or (wrong_in_team d) (wrong_in_teams ds)
+abbrev pub wrong_in_teams : Kind → ℕ → List Data → Option FileFault
+wrong_in_teams kind pots [] = None
+wrong_in_teams kind pots (d ∷ ds) = option_or (wrong_in_team kind pots d) (wrong_in_teams kind pots ds)
 
-abbrev pub wrong_fault : Data → Option FileFault
-wrong_fault d =
-    option_or (wrong_if (is_none (objects_in (codes "teams") d)) Field.Teams)
-    (option_or (wrong_in_teams (team_values d))
-    (wrong_if (is_none (pairs_in d)) Field.Pairs))
+abbrev pub wrong_fault : Kind → Data → Option FileFault
+wrong_fault kind d =
+    option_or (wrong_if (is_none (groups_in kind d)) Field.Groups)
+    (option_or (wrong_if (is_none (pots_in kind d)) Field.Pots)
+    (option_or (wrong_if (is_none (objects_in (codes "teams") d)) Field.Teams)
+    (option_or (wrong_in_teams kind (pots_at d) (team_values d))
+    (option_or (result_err (limits_in kind d))
+    (option_or (wrong_if (is_none (pairs_in d)) Field.Pairs)
+    (result_err (places_in kind d)))))))
 
 abbrev pub HasWrongField : Data → Field → Type 0
-HasWrongField d member = wrong_fault d ≡ Some (FileFault.FieldWrong member)
+HasWrongField d member = wrong_fault (kind_at d) d ≡ Some (FileFault.FieldWrong member)
 
--- ---- 6 TooMany: more than 40 teams, or else more than 64 pairs
+-- ---- 6 TooMany: more teams than `most_teams`, or else more pairs than `most_pairs`
 
 abbrev pub too_many_of : ℕ → ℕ → Option FileFault
 too_many_of teams pairs =
@@ -110,18 +119,21 @@ HasBadCode d place = position (λ code. not (is_code code)) (codes_in d) ≡ Som
 abbrev pub HasSameCode : Data → List ℕ → Type 0
 HasSameCode d code = (place : ℕ) × IsFirstRepeat (codes_in d) place code
 
--- ---- 9 PotSize: pot 1 is empty, or else pot 2 is not of its size
+-- ---- 9 PotSize: of a pairing, pot 1 is empty, or else pot 2 is not of its size
 
 abbrev pub size_of_pot : ℕ → Data → ℕ
-size_of_pot pot d = count_by (λ p. p == pot) (pots_in d)
+size_of_pot pot d = count_by (λ p. p == pot) (team_pots d)
 
 abbrev pub pot_size_of : ℕ → ℕ → Option FileFault
 pot_size_of winners runners_up =
     if winners == 0 then Some (FileFault.PotSize 1 0) else (
     if runners_up == winners then None else Some (FileFault.PotSize 2 runners_up))
 
+abbrev pub pot_size_in : Kind → Data → Option FileFault
+pot_size_in Kind.Pairing d = pot_size_of (size_of_pot 1 d) (size_of_pot 2 d)
+
 abbrev pub HasPotSize : Data → ℕ → ℕ → Type 0
-HasPotSize d pot number = pot_size_of (size_of_pot 1 d) (size_of_pot 2 d) ≡ Some (FileFault.PotSize pot number)
+HasPotSize d pot number = pot_size_in (kind_at d) d ≡ Some (FileFault.PotSize pot number)
 
 -- ---- the table
 

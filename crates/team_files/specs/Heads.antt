@@ -1,5 +1,5 @@
 -- The head of a draw file, or its first fault (this project's own form of a draw file).
-use Rattle.std.specs.Prelude.{◌≡◌, ℕ, ◌+◌, ◌==◌, ◌&&◌, ◌||◌, not, nat_le, nat_lt, bytes_eq, codes, if◌then◌else◌, List, [], ◌∷◌, ◌++◌, length, Bool, Option, Some, None, option_map, option_and_then, is_some, Result, Ok, Err, ok_or, count_by, IsUtf8, ◌⊎◌}
+use Rattle.std.specs.Prelude.{◌≡◌, ℕ, ◌+◌, ◌==◌, ◌&&◌, not, nat_le, nat_lt, codes, if◌then◌else◌, List, [], ◌∷◌, ◌++◌, length, Bool, Option, Some, None, option_map, option_and_then, is_some, Result, Ok, Err, ok_or, count_by, IsUtf8, ◌⊎◌}
 use Rattle.std.specs.List.{list_all}
 use Rattle.std.specs.Option.{option_or}
 use Rattle.serde_json.specs.Data.{Data}
@@ -15,6 +15,7 @@ use Rattle.team_files.specs.declared.head_place.HeadPlace.{HeadPlace}
 use Rattle.team_files.specs.declared.fields.TeamFields.{TeamFields}
 use Rattle.team_files.specs.declared.fields.HeadFields.{HeadFields}
 use Rattle.team_files.specs.Characters.{is_code}
+use Rattle.team_files.specs.Kinds.{kind_named, is_not_built}
 use Rattle.team_files.specs.Teams.{find_from}
 use Rattle.team_files.specs.Answers.{after, unless}
 use Rattle.team_files.specs.Members.{lacks, is_object, list_of, text_in, list_in, number_in, where_true, letter_of, tags_in}
@@ -45,44 +46,50 @@ IsNotJson bytes = IsUtf8 bytes → read bytes ≡ None
 abbrev pub object_fault : Data → Option FileFault
 object_fault d = if is_object d then None else Some FileFault.NotObject
 
--- ---- the kind, told before all that follows; 14 for the kinds that are not built
+-- ---- the kind, told before all that follows: 4 and 5 of `kind`, 3 KindUnknown, 14 KindNotBuilt
 
-abbrev pub fault_of_kind : List ℕ → Option FileFault
-fault_of_kind text =
-    if bytes_eq text (codes "pairing") then None else (
-    if bytes_eq text (codes "group") || bytes_eq text (codes "league") then Some FileFault.KindNotBuilt
-    else Some (FileFault.KindUnknown text))
+-- what is wrong with a name that no kind has
+abbrev pub fault_of_name : List ℕ → FileFault
+fault_of_name text = if is_not_built text then FileFault.KindNotBuilt else FileFault.KindUnknown text
 
-abbrev pub fault_of_kind_text : Option (List ℕ) → Option FileFault
-fault_of_kind_text None = Some (FileFault.FieldWrong Field.Kind)
-fault_of_kind_text (Some text) = fault_of_kind text
+abbrev pub kind_of_text : Option (List ℕ) → Result Kind FileFault
+kind_of_text None = Err (FileFault.FieldWrong Field.Kind)
+kind_of_text (Some text) = ok_or (kind_named text) (fault_of_name text)
 
-abbrev pub kind_fault : Data → Option FileFault
-kind_fault d = if lacks (codes "kind") d then Some (FileFault.FieldMissing Field.Kind) else fault_of_kind_text (text_in (codes "kind") d)
+abbrev pub kind_of : Data → Result Kind FileFault
+kind_of d = if lacks (codes "kind") d then Err (FileFault.FieldMissing Field.Kind) else kind_of_text (text_in (codes "kind") d)
 
 -- ---- 4 FieldMissing: the first needed member that is absent
 
 abbrev pub missing_if : Bool → Field → Option FileFault
 missing_if absent field = if absent then Some (FileFault.FieldMissing field) else None
 
+-- in the head
+abbrev pub missing_in_head : Kind → Data → Option FileFault
+missing_in_head Kind.Pairing d = missing_if (lacks (codes "teams") d) Field.Teams
+
+-- the letter of a team's first-round group
+abbrev pub missing_letter : Kind → Data → Option FileFault
+missing_letter Kind.Pairing d = missing_if (lacks (codes "group") d) Field.Group
+
 -- in one element of `teams`; one that is no object lacks nothing
-abbrev pub missing_in_team : Data → Option FileFault
-missing_in_team d = if not (is_object d) then None else
+abbrev pub missing_in_team : Kind → Data → Option FileFault
+missing_in_team kind d = if not (is_object d) then None else
     option_or (missing_if (lacks (codes "code") d) Field.Code)
     (option_or (missing_if (lacks (codes "pot") d) Field.Pot)
     (option_or (missing_if (lacks (codes "tags") d) Field.Tags)
-    (missing_if (lacks (codes "group") d) Field.Group)))
+    (missing_letter kind d)))
 
-abbrev pub missing_in_teams : List Data → Option FileFault
-missing_in_teams [] = None
-missing_in_teams (d ∷ ds) = option_or (missing_in_team d) (missing_in_teams ds)
+abbrev pub missing_in_teams : Kind → List Data → Option FileFault
+missing_in_teams kind [] = None
+missing_in_teams kind (d ∷ ds) = option_or (missing_in_team kind d) (missing_in_teams kind ds)
 
-abbrev pub missing_in_list : Option (List Data) → Option FileFault
-missing_in_list None = None
-missing_in_list (Some ds) = missing_in_teams ds
+abbrev pub missing_in_list : Kind → Option (List Data) → Option FileFault
+missing_in_list kind None = None
+missing_in_list kind (Some ds) = missing_in_teams kind ds
 
-abbrev pub missing_fault : Data → Option FileFault
-missing_fault d = option_or (missing_if (lacks (codes "teams") d) Field.Teams) (missing_in_list (list_in (codes "teams") d))
+abbrev pub missing_fault : Kind → Data → Option FileFault
+missing_fault kind d = option_or (missing_in_head kind d) (missing_in_list kind (list_in (codes "teams") d))
 
 -- ---- 5 FieldWrong: the fields, or the first member of another form or range
 
@@ -93,22 +100,26 @@ or_wrong value field = ok_or value (FileFault.FieldWrong field)
 abbrev pub name_in : Data → Option (Option (List ℕ))
 name_in d = if lacks (codes "name") d then Some None else option_map (λ text. Some text) (text_in (codes "name") d)
 
--- a pairing has two pots, the winners and the runners-up
-abbrev pub pot_in : Data → Option ℕ
-pot_in d = option_and_then (λ n. where_true (nat_le 1 n && nat_le n 2) n) (number_in (codes "pot") d)
+-- the pot of a team, one of so many, which count from 1
+abbrev pub pot_in : ℕ → Data → Option ℕ
+pot_in pots d = option_and_then (λ n. where_true (nat_le 1 n && nat_le n pots) n) (number_in (codes "pot") d)
 
-abbrev pub team_fields : Data → Result TeamFields FileFault
-team_fields d =
+-- the letter of a team's first-round group, where teams of the kind have one
+abbrev pub letter_in : Kind → Data → Option (Option ℕ)
+letter_in Kind.Pairing d = option_map (λ letter. Some letter) (option_and_then letter_of (text_in (codes "group") d))
+
+abbrev pub team_fields : Kind → ℕ → Data → Result TeamFields FileFault
+team_fields kind pots d =
     after (or_wrong (text_in (codes "code") d) Field.Code) (λ code.
     after (or_wrong (name_in d) Field.Name) (λ name.
-    after (or_wrong (pot_in d) Field.Pot) (λ pot.
+    after (or_wrong (pot_in pots d) Field.Pot) (λ pot.
     after (or_wrong (tags_in (codes "tags") d) Field.Tags) (λ tags.
-    after (or_wrong (option_and_then letter_of (text_in (codes "group") d)) Field.Group) (λ letter.
+    after (or_wrong (letter_in kind d) Field.Group) (λ letter.
     Ok (record { code = code; name = name; pot = pot; tags = tags; group_letter = letter }))))))
 
-abbrev pub all_team_fields : List Data → Result (List TeamFields) FileFault
-all_team_fields [] = Ok []
-all_team_fields (d ∷ ds) = after (team_fields d) (λ team. after (all_team_fields ds) (λ teams. Ok (team ∷ teams)))
+abbrev pub all_team_fields : Kind → ℕ → List Data → Result (List TeamFields) FileFault
+all_team_fields kind pots [] = Ok []
+all_team_fields kind pots (d ∷ ds) = after (team_fields kind pots d) (λ team. after (all_team_fields kind pots ds) (λ teams. Ok (team ∷ teams)))
 
 -- a list of objects
 abbrev pub objects_in : List ℕ → Data → Option (List Data)
@@ -129,12 +140,30 @@ pairs_of_texts (d ∷ ds) = option_and_then (λ pair. option_map (λ pairs. pair
 abbrev pub pairs_in : Data → Option (List HeadPair)
 pairs_in d = if lacks (codes "pairs") d then Some [] else option_and_then pairs_of_texts (list_in (codes "pairs") d)
 
-abbrev pub head_fields : Data → Result HeadFields FileFault
-head_fields d =
+-- How many groups and pots there are. A pairing has no groups, and two pots: the winners and the runners-up.
+abbrev pub groups_in : Kind → Data → Option ℕ
+groups_in Kind.Pairing d = Some 0
+
+abbrev pub pots_in : Kind → Data → Option ℕ
+pots_in Kind.Pairing d = Some 2
+
+-- The limits of the tags, and the fixed places. A pairing has none.
+abbrev pub limits_in : Kind → Data → Result (List HeadLimit) FileFault
+limits_in Kind.Pairing d = Ok []
+
+abbrev pub places_in : Kind → Data → Result (List HeadPlace) FileFault
+places_in Kind.Pairing d = Ok []
+
+abbrev pub head_fields : Kind → Data → Result HeadFields FileFault
+head_fields kind d =
+    after (or_wrong (groups_in kind d) Field.Groups) (λ groups.
+    after (or_wrong (pots_in kind d) Field.Pots) (λ pots.
     after (or_wrong (objects_in (codes "teams") d) Field.Teams) (λ objects.
-    after (all_team_fields objects) (λ teams.
+    after (all_team_fields kind pots objects) (λ teams.
+    after (limits_in kind d) (λ limits.
     after (or_wrong (pairs_in d) Field.Pairs) (λ pairs.
-    Ok (record { teams = teams; pairs = pairs }))))
+    after (places_in kind d) (λ places.
+    Ok (record { groups = groups; pots = pots; teams = teams; limits = limits; pairs = pairs; places = places }))))))))
 
 -- ---- 6 TooMany: the first list that is longer than its limit
 
@@ -159,7 +188,7 @@ name_of code (Some name) = name
 abbrev pub team_of : ℕ → TeamFields → Result Team FileFault
 team_of place fields =
     if is_code fields.code
-    then Ok (record { code = fields.code; name = name_of fields.code fields.name; pot = fields.pot; tags = fields.tags; group_letter = Some fields.group_letter })
+    then Ok (record { code = fields.code; name = name_of fields.code fields.name; pot = fields.pot; tags = fields.tags; group_letter = fields.group_letter })
     else Err (FileFault.BadCode place)
 
 abbrev pub teams_from : ℕ → List TeamFields → Result (List Team) FileFault
@@ -175,33 +204,34 @@ same_code_from earlier (t ∷ ts) = if is_some (find_from t.code earlier 0) then
 abbrev pub same_code_fault : List Team → Option FileFault
 same_code_fault teams = same_code_from [] teams
 
--- ---- 9 PotSize: pot 1 is empty, or pot 2 is not of its size
+-- ---- 9 PotSize
 
 abbrev pub pot_size : ℕ → List Team → ℕ
 pot_size pot teams = count_by (λ t. t.pot == pot) teams
 
-abbrev pub pot_size_fault : List Team → Option FileFault
-pot_size_fault teams =
+-- of a pairing: pot 1 is empty, or pot 2 is not of its size
+abbrev pub pot_size_fault : Kind → List Team → Option FileFault
+pot_size_fault Kind.Pairing teams =
     if pot_size 1 teams == 0 then Some (FileFault.PotSize 1 0) else (
     if pot_size 2 teams == pot_size 1 teams then None else Some (FileFault.PotSize 2 (pot_size 2 teams)))
 
 -- ---- the head, or the first of its faults in the order of their numbers
 
--- a pairing has two pots, no groups, no limits and no fixed places
-abbrev pub pairing_head : List Team → List HeadPair → Head
-pairing_head teams pairs = record { kind = Kind.Pairing; groups = 0; pots = 2; teams = teams; limits = []; pairs = pairs; places = [] }
+-- the head with these members, and these teams made of them
+abbrev pub head_with : Kind → HeadFields → List Team → Head
+head_with kind fields teams = record { kind = kind; groups = fields.groups; pots = fields.pots; teams = teams; limits = fields.limits; pairs = fields.pairs; places = fields.places }
 
 abbrev pub head_of : Data → Result Head FileFault
 head_of d =
     unless (object_fault d) (
-    unless (kind_fault d) (
-    unless (missing_fault d) (
-    after (head_fields d) (λ fields.
+    after (kind_of d) (λ kind.
+    unless (missing_fault kind d) (
+    after (head_fields kind d) (λ fields.
     unless (too_many_fault fields) (
     after (teams_from 0 fields.teams) (λ teams.
     unless (same_code_fault teams) (
-    unless (pot_size_fault teams) (
-    Ok (pairing_head teams fields.pairs)))))))))
+    unless (pot_size_fault kind teams) (
+    Ok (head_with kind fields teams)))))))))
 
 -- The head was read of some JSON value, so that none of the faults of a head holds of it.
 abbrev pub IsReadHead : Head → Type 0

@@ -8,15 +8,16 @@ ghost use Rattle.team_files.specs.Heads.{too_many_fault, most_teams, team_of, te
 use crate::code::Code;
 use crate::fault::{Field, FileFault};
 use crate::fields::{AllTeamFields, HeadFields, TeamFields};
+use crate::kind::Kind;
 use crate::team::Team;
 use crate::teams::Teams;
 use std::alloc::Global;
 
 /// The most teams that a head may have.
-pub(crate) const MOST_TEAMS: usize = 40;
+pub const MOST_TEAMS: usize = 40;
 
 /// The most forbidden pairs that a head may have.
-pub(crate) const MOST_PAIRS: usize = 64;
+pub const MOST_PAIRS: usize = 64;
 
 /// Refuses the first list that is longer than its limit.
 pub(crate) fn check_lengths(fields: &HeadFields) -> Result<(), FileFault>
@@ -83,13 +84,22 @@ fn team_of(place: u32, fields: TeamFields) -> Result<Team, FileFault>
         name: name.unwrap_or(text),
         pot,
         tags,
-        group_letter: Some(group_letter),
+        group_letter,
     })
 }
 
+/// Refuses teams whose pots are not of the sizes that the kind asks.
+pub(crate) fn check_pots(kind: Kind, teams: &Teams) -> Result<(), FileFault>
+    ensures { result_err result ≡ pot_size_fault kind teams.now }
+{
+    match kind {
+        Kind::Pairing => check_two_pots(teams),
+    }
+}
+
 /// Refuses an empty pot 1, and a pot 2 that is not of its size.
-pub(crate) fn check_pots(teams: &Teams) -> Result<(), FileFault>
-    ensures { result_err result ≡ pot_size_fault teams.now }
+fn check_two_pots(teams: &Teams) -> Result<(), FileFault>
+    ensures { result_err result ≡ pot_size_fault Kind.Pairing teams.now }
 {
     let winners = pot_size(teams, 1);
     if winners == 0 {

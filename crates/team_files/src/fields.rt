@@ -1,6 +1,8 @@
 ghost use Rattle.std.specs.Prelude.{◌≡◌, length};
 
+use crate::head_limit::HeadLimits;
 use crate::head_pair::HeadPairs;
+use crate::head_place::HeadPlaces;
 use crate::tag::Tags;
 use crate::text::Text;
 use std::marker::Model;
@@ -12,7 +14,7 @@ pub struct TeamFields {
     pub name: Option<Text>,
     pub pot: u32,
     pub tags: Tags,
-    pub group_letter: u8,
+    pub group_letter: Option<u8>,
 }
 
 /// The teams' members, in file order. Contracts see their list.
@@ -56,6 +58,10 @@ impl AllTeamFields {
 /// The members of a head whose forms are right.
 #[derive(Drop)]
 pub struct HeadFields {
+    pub groups: u32,
+    pub pots: u32,
     pub teams: AllTeamFields,
+    pub limits: HeadLimits,
     pub pairs: HeadPairs,
+    pub places: HeadPlaces,
 }

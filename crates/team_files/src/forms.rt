@@ -9,6 +9,9 @@ ghost use Rattle.team_files.specs.Members.{is_object};
 
 use crate::fault::{Field, FileFault};
 use crate::fields::{AllTeamFields, HeadFields};
+use crate::head_limit::HeadLimits;
+use crate::head_place::HeadPlaces;
+use crate::kind::Kind;
 use crate::members::list_in;
 use crate::pair_forms::pairs_in;
 use crate::team_forms::team_fields;
@@ -17,15 +20,33 @@ use std::alloc::Global;
 
 /// The members of a head, or its first member of another form or range: the list of teams, then
 /// each team, then the forbidden pairs.
-pub(crate) fn head_fields(alloc: Global, head: &Value) -> Result<HeadFields, FileFault>
-    ensures { Gives result (head_fields (view head.now)) }
+pub(crate) fn head_fields(alloc: Global, kind: Kind, head: &Value) -> Result<HeadFields, FileFault>
+    ensures { Gives result (head_fields kind (view head.now)) }
 {
+    match kind {
+        Kind::Pairing => pairing_fields(alloc, head),
+    }
+}
+
+/// The members of a pairing's head. It has no groups, two pots, no limits and no fixed places, and
+/// none of these stand in it.
+fn pairing_fields(alloc: Global, head: &Value) -> Result<HeadFields, FileFault>
+    ensures { Gives result (head_fields Kind.Pairing (view head.now)) }
+{
+    let pots = 2;
     let Some(objects) = objects_in(head, "teams") else {
         return Err(FileFault::FieldWrong { name: Field::Teams });
     };
-    let teams = all_team_fields(alloc, objects)?;
+    let teams = all_team_fields(alloc, Kind::Pairing, pots, objects)?;
     let pairs = pairs_in(alloc, head)?;
-    Ok(HeadFields { teams, pairs })
+    Ok(HeadFields {
+        groups: 0,
+        pots,
+        teams,
+        limits: HeadLimits::new(Vec::new(alloc)),
+        pairs,
+        places: HeadPlaces::new(Vec::new(alloc)),
+    })
 }
 
 /// The list of objects in a member.
@@ -49,12 +70,17 @@ fn are_objects(list: &[Value]) -> bool
     true
 }
 
-fn all_team_fields(alloc: Global, list: &[Value]) -> Result<AllTeamFields, FileFault>
-    ensures { Gives result (all_team_fields (map view list.now)) }
+fn all_team_fields(
+    alloc: Global,
+    kind: Kind,
+    pots: u32,
+    list: &[Value],
+) -> Result<AllTeamFields, FileFault>
+    ensures { Gives result (all_team_fields kind pots (map view list.now)) }
 {
     let mut teams = Vec::new(alloc);
     for team in list {
-        teams.push(team_fields(alloc, team)?)?;
+        teams.push(team_fields(alloc, kind, pots, team)?)?;
     }
     Ok(AllTeamFields::new(teams))
 }

@@ -1,16 +1,16 @@
 ghost use Rattle.std.specs.Prelude.{◌≡◌, ◌≤◌, length};
-ghost use Rattle.team_files.specs.Heads.{IsReadHead, most_pairs, pairing_head};
+ghost use Rattle.team_files.specs.Heads.{IsReadHead, most_pairs};
 
 use crate::head_limit::{HeadLimit, HeadLimits};
 use crate::head_pair::{HeadPair, HeadPairs};
 use crate::head_place::{HeadPlace, HeadPlaces};
 use crate::kind::Kind;
 use crate::teams::Teams;
-use std::alloc::Global;
 use std::marker::Model;
 
 /// What a head says, before its pairs and its fixed places are looked up. By its type it was read of
-/// a value of which no fault of a head holds: so it has at most 40 teams and at most 64 pairs.
+/// a value of which no fault of a head holds: so it has at most `MOST_TEAMS` teams and at most
+/// `MOST_PAIRS` pairs.
 #[derive(Drop)]
 pub struct Head {
     kind: Kind,
@@ -49,19 +49,27 @@ impl Model for Head {
 }
 
 impl Head {
-    /// The head of a pairing with these teams and pairs. Takes no memory.
-    pub(crate) fn of_pairing(alloc: Global, teams: Teams, pairs: HeadPairs) -> Head
-        requires { IsReadHead (pairing_head teams pairs) }
-        ensures { result ≡ pairing_head teams pairs }
+    /// The head with these members. Takes no memory.
+    pub(crate) fn new(
+        kind: Kind,
+        groups: u32,
+        pots: u32,
+        teams: Teams,
+        limits: HeadLimits,
+        pairs: HeadPairs,
+        places: HeadPlaces,
+    ) -> Head
+        requires { IsReadHead (record { kind = kind; groups = groups; pots = pots; teams = teams; limits = limits; pairs = pairs; places = places }) }
+        ensures { result ≡ record { kind = kind; groups = groups; pots = pots; teams = teams; limits = limits; pairs = pairs; places = places } }
     {
         Head {
-            kind: Kind::Pairing,
-            groups: 0,
-            pots: 2,
+            kind,
+            groups,
+            pots,
             teams,
-            limits: HeadLimits::new(Vec::new(alloc)),
+            limits,
             pairs,
-            places: HeadPlaces::new(Vec::new(alloc)),
+            places,
         }
     }
 
@@ -101,7 +109,8 @@ impl Head {
         self.limits.as_slice()
     }
 
-    /// The forbidden pairs as the head names them, at most 64, in file order. Takes no memory.
+    /// The forbidden pairs as the head names them, at most `MOST_PAIRS`, in file order. Takes no
+    /// memory.
     pub fn pairs(&self) -> &[HeadPair]
         ensures pairs { result.now ≡ self.now.pairs }
         ensures few { length result.now ≤ most_pairs }

@@ -1,5 +1,5 @@
 ghost use Rattle.std.specs.Prelude.{◌≡◌};
-ghost use Rattle.team_files.specs.Kinds.{kind_text};
+ghost use Rattle.team_files.specs.Kinds.{kind_named, kind_text};
 
 /// The kind of a draw: those that are built. A head of another kind that is known by name is refused
 /// with `KindNotBuilt`.
@@ -9,6 +9,16 @@ pub enum Kind {
 }
 
 impl Kind {
+    /// The kind with the name. `None` exactly where no kind that is built has it. Takes no memory.
+    pub(crate) fn named(text: &str) -> Option<Kind>
+        ensures { result ≡ kind_named text.now }
+    {
+        if text == Kind::Pairing.text() {
+            return Some(Kind::Pairing);
+        }
+        None
+    }
+
     /// The kind's name as it stands in a head. Takes no memory.
     pub fn text(self) -> &'static str
         ensures { result.now ≡ kind_text self }

@@ -25,6 +25,7 @@ mod teams;
 mod tests;
 mod text;
 
+pub use checks::{MOST_PAIRS, MOST_TEAMS};
 pub use code::Code;
 pub use fault::{Field, FileFault};
 pub use head::Head;

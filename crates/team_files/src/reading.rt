@@ -1,15 +1,17 @@
 //! Reads a head: one pass a fault, in the order of the faults' numbers.
 
-ghost use Rattle.std.specs.Prelude.{◌≡◌, ◌≢◌, IfOk, IfErr};
+ghost use Rattle.std.specs.Prelude.{◌≡◌, ◌≢◌, Some, IfOk, IfErr};
 ghost use Rattle.std.specs.Result.{result_err};
 ghost use Rattle.serde_json.specs.View.{view};
-ghost use Rattle.team_files.specs.Answers.{Gives, Passes};
-ghost use Rattle.team_files.specs.Heads.{IsHead, IsHeadFault, IsJson, IsNotJson, object_fault, fault_of_kind, kind_fault, head_of};
+ghost use Rattle.team_files.specs.Answers.{Gives};
+ghost use Rattle.team_files.specs.Heads.{IsHead, IsHeadFault, IsJson, IsNotJson, object_fault, kind_of, kind_of_text, head_of};
 
 use crate::checks::{check_lengths, check_pots, teams_of};
 use crate::fault::{Field, FileFault};
+use crate::fields::HeadFields;
 use crate::forms::head_fields;
 use crate::head::Head;
+use crate::kind::Kind;
 use crate::members::{lacks, text_in};
 use crate::missing::check_members;
 use crate::text::Text;
@@ -23,8 +25,8 @@ use std::alloc::Global;
 /// The head's first fault. `NotJson` and `NotObject` come first, then what is wrong with `kind`:
 /// `FieldMissing`, `FieldWrong`, `KindUnknown`, or `KindNotBuilt` where it is `group` or `league`.
 /// Then, each over the whole head: the first needed member that is absent, `FieldMissing`; the
-/// first member of another form or range, `FieldWrong`; more than 40 teams or more than 64 pairs,
-/// `TooMany`; the first team without a code, `BadCode`; the first team with an earlier one's code,
+/// first member of another form or range, `FieldWrong`; more than `MOST_TEAMS` teams or more than
+/// `MOST_PAIRS` pairs, `TooMany`; the first team without a code, `BadCode`; the first team with an earlier one's code,
 /// `SameCode`; pot 1 empty or pot 2 not of its size, `PotSize`. `NoMemory` can come in place of any
 /// of them.
 pub fn read_head(alloc: Global, bytes: &[u8]) -> Result<Head, FileFault>
@@ -52,13 +54,21 @@ fn head_of(alloc: Global, value: &Value) -> Result<Head, FileFault>
     ensures { Gives result (head_of (view value.now)) }
 {
     check_object(value)?;
-    check_kind(alloc, value)?;
-    check_members(value)?;
-    let fields = head_fields(alloc, value)?;
+    let kind = kind_of(alloc, value)?;
+    check_members(kind, value)?;
+    let fields = head_fields(alloc, kind, value)?;
     check_lengths(&fields)?;
-    let teams = teams_of(alloc, fields.teams)?;
-    check_pots(&teams)?;
-    Ok(Head::of_pairing(alloc, teams, fields.pairs))
+    let HeadFields {
+        groups,
+        pots,
+        teams,
+        limits,
+        pairs,
+        places,
+    } = fields;
+    let teams = teams_of(alloc, teams)?;
+    check_pots(kind, &teams)?;
+    Ok(Head::new(kind, groups, pots, teams, limits, pairs, places))
 }
 
 fn check_object(value: &Value) -> Result<(), FileFault>
@@ -70,28 +80,28 @@ fn check_object(value: &Value) -> Result<(), FileFault>
     Ok(())
 }
 
-fn check_kind(alloc: Global, head: &Value) -> Result<(), FileFault>
-    ensures { Passes result (kind_fault (view head.now)) }
+fn kind_of(alloc: Global, head: &Value) -> Result<Kind, FileFault>
+    ensures { Gives result (kind_of (view head.now)) }
 {
     if lacks(head, "kind") {
         return Err(FileFault::FieldMissing { name: Field::Kind });
     }
     match text_in(head, "kind") {
-        Some(kind) => check_kind_text(alloc, kind),
+        Some(name) => kind_of_name(alloc, name),
         None => Err(FileFault::FieldWrong { name: Field::Kind }),
     }
 }
 
-/// Passes a pairing, the one kind that is built.
-fn check_kind_text(alloc: Global, kind: &str) -> Result<(), FileFault>
-    ensures { Passes result (fault_of_kind kind.now) }
+/// The kind with the name, where it is built.
+fn kind_of_name(alloc: Global, name: &str) -> Result<Kind, FileFault>
+    ensures { Gives result (kind_of_text (Some name.now)) }
 {
-    if kind == "pairing" {
-        return Ok(());
+    if let Some(kind) = Kind::named(name) {
+        return Ok(kind);
     }
-    if kind == "group" || kind == "league" {
+    if name == "group" || name == "league" {
         return Err(FileFault::KindNotBuilt);
     }
-    let text = Text::copy(alloc, kind)?;
+    let text = Text::copy(alloc, name)?;
     Err(FileFault::KindUnknown { text })
 }

@@ -4,26 +4,32 @@ ghost use Rattle.std.specs.Prelude.{◌≡◌, ◌∷◌, [], map, true, option_
 ghost use Rattle.serde_json.specs.View.{view};
 ghost use Rattle.team_files.specs.Answers.{Gives};
 ghost use Rattle.team_files.specs.Characters.{is_tag};
-ghost use Rattle.team_files.specs.Heads.{or_wrong, name_in, pot_in, team_fields};
+ghost use Rattle.team_files.specs.Heads.{or_wrong, name_in, pot_in, letter_in, team_fields};
 ghost use Rattle.team_files.specs.Members.{text_in, letter_of, tag_of, tags_of, tags_in};
 
 use crate::fault::{Field, FileFault};
 use crate::fields::TeamFields;
+use crate::kind::Kind;
 use crate::members::{lacks, list_in, number_in, text_in};
 use crate::tag::{Tag, Tags, is_tag};
 use crate::text::Text;
 use serde_json::Value;
 use std::alloc::Global;
 
-/// The members of one team.
-pub(crate) fn team_fields(alloc: Global, team: &Value) -> Result<TeamFields, FileFault>
-    ensures { Gives result (team_fields (view team.now)) }
+/// The members of one team, in a head of the kind with so many pots.
+pub(crate) fn team_fields(
+    alloc: Global,
+    kind: Kind,
+    pots: u32,
+    team: &Value,
+) -> Result<TeamFields, FileFault>
+    ensures { Gives result (team_fields kind pots (view team.now)) }
 {
     let code = code_in(alloc, team)?;
     let name = name_in(alloc, team)?;
-    let pot = pot_in(team)?;
+    let pot = pot_in(pots, team)?;
     let tags = tags_in(alloc, team)?;
-    let group_letter = letter_in(team)?;
+    let group_letter = letter_in(kind, team)?;
     Ok(TeamFields {
         code,
         name,
@@ -54,21 +60,25 @@ fn name_in(alloc: Global, team: &Value) -> Result<Option<Text>, FileFault>
     }
 }
 
-fn pot_in(team: &Value) -> Result<u32, FileFault>
-    ensures { result ≡ or_wrong (pot_in (view team.now)) Field.Pot }
+/// The pot, from 1 to the number of pots.
+fn pot_in(pots: u32, team: &Value) -> Result<u32, FileFault>
+    ensures { result ≡ or_wrong (pot_in pots (view team.now)) Field.Pot }
 {
     match number_in(team, "pot") {
-        Some(pot) if 1 <= pot && pot <= 2 => Ok(pot as u32),
+        Some(pot) if 1 <= pot && pot <= pots as u64 => Ok(pot as u32),
         _ => Err(FileFault::FieldWrong { name: Field::Pot }),
     }
 }
 
-fn letter_in(team: &Value) -> Result<u8, FileFault>
-    ensures { result ≡ or_wrong (option_and_then letter_of (text_in (codes "group") (view team.now))) Field.Group }
+/// The letter of the team's first-round group, where teams of the kind have one.
+fn letter_in(kind: Kind, team: &Value) -> Result<Option<u8>, FileFault>
+    ensures { result ≡ or_wrong (letter_in kind (view team.now)) Field.Group }
 {
-    match text_in(team, "group").and_then(letter_of) {
-        Some(letter) => Ok(letter),
-        None => Err(FileFault::FieldWrong { name: Field::Group }),
+    match kind {
+        Kind::Pairing => match text_in(team, "group").and_then(letter_of) {
+            Some(letter) => Ok(Some(letter)),
+            None => Err(FileFault::FieldWrong { name: Field::Group }),
+        },
     }
 }
 

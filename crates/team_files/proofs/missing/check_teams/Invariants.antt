@@ -5,4 +5,4 @@ use Rattle.team_files.proofs.missing.check_teams.Given as goal
 
 -- no team before this one lacks a member
 abbrev pub invariant-loop-team : goal.invariant-loop-team
-invariant-loop-team l = missing_in_teams (map view (drop l.team-index l.teams)) ≡ missing_in_teams (map view l.teams)
+invariant-loop-team l = missing_in_teams l.kind (map view (drop l.team-index l.teams)) ≡ missing_in_teams l.kind (map view l.teams)
