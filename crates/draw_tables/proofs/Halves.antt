@@ -11,18 +11,22 @@ use Rattle.rule_sets.specs.Forms.{HasCommonForm, HasPairingForm, IsInPot}
 use Rattle.draw_tables.specs.Pots.{runners_up}
 use Rattle.draw_tables.proofs.InOrder.{pot_length}
 
+-- one team more
 one_more : (pot : ℕ) (t : Team) (ts : List Team) → pot_size pot (t ∷ ts) ≡ cond (t.pot == pot) 1 0 + pot_size pot ts
 one_more pot t ts = sum_by-cons (λ (u : Team). cond (u.pot == pot) 1 0) t ts
 
+-- of two pots it is the first or the second
 one_or_two : (n : ℕ) → 1 ≤ n → n ≤ 2 → (n ≡ 1) ⊎ (n ≡ 2)
 one_or_two zero low high = absurd (omega arith)
 one_or_two (suc zero) low high = inl refl
 one_or_two (suc (suc n)) low high = inr (omega arith)
 
+-- a team counts in one of the two pots
 counts_one : (t : Team) → (t.pot ≡ 1) ⊎ (t.pot ≡ 2) → cond (t.pot == 1) 1 0 + cond (t.pot == 2) 1 0 ≡ 1
 counts_one t (inl e) = rw e refl
 counts_one t (inr e) = rw e refl
 
+-- each team counts once
 both_pots : (ts : List Team) → All (IsInPot 2) ts → pot_size 1 ts + pot_size 2 ts ≡ length ts
 both_pots [] h = refl
 both_pots (t ∷ ts) h =

@@ -21,14 +21,17 @@ use Rattle.draw_tables.proofs.Cases.{IsFirstNotOnce, IsFirstPair, all_once, foun
 
 -- ---- laws
 
+-- a legal table breaks no rule
 pub none_broken_where_legal : NoneBrokenWhereLegal
 none_broken_where_legal file (Pairs pairs) legal = legal_keeps file pairs.winners legal.1
 
+-- a number that is not other than 1
 one_unless : (n : ℕ) → (n ≢ 1 → ⊥) → n ≡ 1
 one_unless zero h = absurd (h (λ e. omega arith))
 one_unless (suc zero) h = refl
 one_unless (suc (suc n)) h = absurd (h (λ e. omega arith))
 
+-- a table that breaks no rule is legal
 pub legal_where_none_broken : LegalWhereNoneBroken
 legal_where_none_broken file (Pairs pairs) formed of_file none = (
   of_file.kind,
@@ -71,7 +74,7 @@ module _ (file : DrawFile) (table : List TeamId) (rule first : ℕ) where
       go (inl one) = by_count a g one ∙ sym (by_count b h one)
       go (inr more) = one_opponent a b (by_pair a g more) (by_pair b h more)
 
--- of two cases that are not after each other, all three numbers are the same
+-- two cases neither of which is after the other have the same three numbers
 same_case : (rule first second r f s : ℕ) → IsNotAfter rule first second r f s → IsNotAfter r f s rule first second → (rule ≡ r) × (first ≡ f) × (second ≡ s)
 same_case rule first second r f s (inl a) (inl b) = absurd (omega arith)
 same_case rule first second r f s (inl a) (inr (e, b)) = absurd (omega arith)
@@ -81,6 +84,7 @@ same_case rule first second r f s (inr (d, inl a)) (inr (e, inr (g, b))) = absur
 same_case rule first second r f s (inr (d, inr (h, a))) (inr (e, inl b)) = absurd (omega arith)
 same_case rule first second r f s (inr (d, inr (h, a))) (inr (e, inr (g, b))) = (d, h, omega arith)
 
+-- a table has at most one first case
 pub one_first_broken : OneFirstBroken
 one_first_broken file table rule first second r f s a b = same_case rule first second r f s (a.least r f s b.broken) (b.least rule first second a.broken)
 
@@ -90,6 +94,7 @@ one_first_broken file table rule first second r f s a b = same_case rule first s
 abbrev pub pairs_of : List TeamId → Table
 pairs_of ws = Pairs (record { winners = ws })
 
+-- what is at most b is less than b or b
 less_or_same : (a b : ℕ) → a ≤ b → (a < b) ⊎ (a ≡ b)
 less_or_same zero zero le = inr refl
 less_or_same zero (suc b) le = inl (omega arith)
@@ -100,7 +105,7 @@ less_or_same (suc a) (suc b) le = up (less_or_same a b (omega arith))
     up (inl lt) = inl (omega arith)
     up (inr e) = inr (omega arith)
 
--- a case that is the least by the rule and the first number is the first, since its second number follows
+-- A case that is the least by the rule and the first number is the first case, since the second number follows from these.
 first_case : (file : DrawFile) (table : List TeamId) (rule first second : ℕ) → IsBrokenPairing file table rule first second
     → ((r f s : ℕ) → IsBrokenPairing file table r f s → (rule < r) ⊎ ((rule ≡ r) × (first ≤ f))) → IsFirstBroken file (pairs_of table) rule first second
 first_case file table rule first second broken least = record { broken = broken; least = λ r f s h. by_rule r f s h (least r f s h) }
@@ -118,9 +123,11 @@ first_case file table rule first second broken least = record { broken = broken;
 
 -- ---- what the passes find
 
+-- each winner is given exactly once
 abbrev pub NoneNotOnce : DrawFile → List TeamId → Type 0
 NoneNotOnce file table = first_not_once table (winners file) ≡ None
 
+-- no pair breaks the rule
 abbrev pub NonePairs : DrawFile → List TeamId → PairRule → Type 0
 NonePairs file table rule = first_pair (breaks file rule) (runners_up file) table ≡ None
 
@@ -137,10 +144,12 @@ module _ (file : DrawFile) (table : List TeamId) where
   not_rule_3 : NonePairs file table Tags → (f s : ℕ) → HaveOneTag file table f s → ⊥
   not_rule_3 none f s h = false≢true (sym (keeps Tags none (team_at f) (team_at s) h.pair) ∙ tags_break file table f s h)
 
+-- this pair is the first that breaks the rule
 abbrev FoundPair : DrawFile → List TeamId → PairRule → TeamId → TeamId → Type 0
 FoundPair file table rule r w = first_pair (breaks file rule) (runners_up file) table ≡ Some (r, w)
 
 module _ (file : DrawFile) (table : List TeamId) where
+  -- what a pass finds first is the first case, where the passes before it found nothing
   first_of_rule_1 : (w : TeamId) (n : ℕ) → first_not_once table (winners file) ≡ Some (w, n) → IsFirstBroken file (pairs_of table) 1 w.0 n
   first_of_rule_1 w n e =
       let found = found_not_once table (winners file) w n (pot_in_order 1 file) e in
@@ -188,6 +197,7 @@ module _ (file : DrawFile) (table : List TeamId) where
 
 -- ---- the verdict
 
+-- a table gives so few teams that they are counted in 32 bits
 pub few : (file : DrawFile) (table : List TeamId) → HasCommonForm file → IsPairTableOf file table → length table < 2 ^ 32
 few file table formed of_file =
     let size = of_file.size in
@@ -195,7 +205,7 @@ few file table formed of_file =
     let limit = formed.few_teams in
     omega arith
 
--- the verdict on a table of which a first broken case was found
+-- the verdict on a table whose first case was found
 judgement_of : (file : DrawFile) (table : Table) (rule first second : ℕ) (verdict : Verdict) → verdict ≡ Broken rule first second → IsFirstBroken file table rule first second → IsJudgement file table verdict
 judgement_of file table rule first second verdict is h = record {
   legal = λ e. let clash = sym is ∙ e in cc;
@@ -208,6 +218,7 @@ judgement_of file table rule first second verdict is h = record {
       rw (← one, ← two, ← three) h;
 }
 
+-- the verdict after each pass, and after all
 module _ (file : DrawFile) (table : List TeamId) where
   pub judged_1 : (found : TeamId × ℕ) (verdict : Verdict)
       → first_not_once table (winners file) ≡ Some found → verdict ≡ Broken 1 found.0.0 found.1 → IsJudgement file (pairs_of table) verdict

@@ -10,14 +10,16 @@ use team_files::TeamId;
 
 /// Whether the choice is a candidate of the phase after the moves. Takes no memory.
 pub fn is_candidate(file: &DrawFile, moves: &[Move], choice: Choice) -> bool
-    ensures { IsTrue result ↔ IsAmong (candidates file.now moves.now) choice }
+    ensures { IsTrue result ↔ (IsAmong (candidates file.now moves.now) choice) }
 {
     is_candidate_in(file, moves, phase_of(file, moves), choice)
 }
 
 /// The move that the choice adds after the moves, or none where it is no candidate. Takes no memory.
 pub fn move_of(file: &DrawFile, moves: &[Move], choice: Choice) -> Option<Move>
-    ensures { MatchOption result (IsAmong (candidates file.now moves.now) choice → ⊥) (λ m. IsMoveOf file.now moves.now choice m) }
+    ensures { MatchOption result
+        (IsAmong (candidates file.now moves.now) choice → ⊥)
+        (λ m. IsMoveOf file.now moves.now choice m) }
 {
     let phase = phase_of(file, moves);
     if !is_candidate_in(file, moves, phase, choice) {
@@ -40,7 +42,7 @@ pub fn move_in(phase: Phase, choice: Choice) -> Option<Move>
 
 /// Whether the choice is a candidate of a phase.
 fn is_candidate_in(file: &DrawFile, moves: &[Move], phase: Phase, choice: Choice) -> bool
-    ensures { IsTrue result ↔ IsAmong (candidates_in file.now moves.now phase) choice }
+    ensures { IsTrue result ↔ (IsAmong (candidates_in file.now moves.now phase) choice) }
 {
     match (phase, choice) {
         (Phase::Runner, Choice::Team(team)) => is_undrawn(file, moves, team),
@@ -51,21 +53,21 @@ fn is_candidate_in(file: &DrawFile, moves: &[Move], phase: Phase, choice: Choice
 
 /// Whether the team is a runner-up that was not drawn.
 fn is_undrawn(file: &DrawFile, moves: &[Move], team: TeamId) -> bool
-    ensures { IsTrue result ↔ IsAmong (undrawn file.now moves.now) team }
+    ensures { IsTrue result ↔ (IsAmong (undrawn file.now moves.now) team) }
 {
     is_in_pot(file, team, 2) && !is_drawn(moves, team)
 }
 
 /// Whether the team is a winner that is not paired.
 fn is_unpaired(file: &DrawFile, moves: &[Move], team: TeamId) -> bool
-    ensures { IsTrue result ↔ IsAmong (unpaired file.now moves.now) team }
+    ensures { IsTrue result ↔ (IsAmong (unpaired file.now moves.now) team) }
 {
     is_in_pot(file, team, 1) && !is_paired(moves, team)
 }
 
 /// Whether the team is one of the file's, and of the pot.
 fn is_in_pot(file: &DrawFile, team: TeamId, pot: u32) -> bool
-    ensures { IsTrue result ↔ IsAmong (teams_of_pot pot file.now) team }
+    ensures { IsTrue result ↔ (IsAmong (teams_of_pot pot file.now) team) }
 {
     let teams = file.teams();
     team.0 < teams.number() && teams.get(team).pot == pot

@@ -8,6 +8,7 @@ use Rattle.draw_tables.proofs.Counts.{same_by_test, test_same}
 use Rattle.draw_tables.proofs.Among.{pot_among, among_pot}
 use Rattle.draw_tables.proofs.candidacy.is_in_pot.Goals as goal
 
+-- what passes the test is less
 not_less : (a b : ℕ) → nat_lt a b ≡ true → b ≤ a → ⊥
 not_less a b e le = grind (arith, nat_tests)
 

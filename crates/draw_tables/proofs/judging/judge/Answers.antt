@@ -4,5 +4,6 @@ use Rattle.draw_tables.proofs.Judged.{pairs_of}
 use Rattle.draw_tables.proofs.judging.judge.Goals as goal
 
 pub returns-clause-broken : goal.returns-clause-broken
-returns-clause-broken c = let same : c.args.table.now ≡ pairs_of c.winners.result.now = grind (arith, common_steps) in
-    rw same c.judge_pairing.ensures.broken
+returns-clause-broken c =
+    let table : c.args.table.now ≡ pairs_of c.winners.result.now = grind (arith, common_steps) in
+    rw table c.judge_pairing.ensures.broken
