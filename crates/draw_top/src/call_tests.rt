@@ -6,7 +6,7 @@ use crate::turn::offer_of;
 use crate::{Status, follow};
 use draw_lines::opening_text;
 use draw_ports::{MemorySink, MemorySource};
-use draw_state::{Command, Refusal, State, Word, judge_command, next_line};
+use draw_state::{Action, Command, Refusal, State, Word, judge_command, next_line};
 use draw_tables::{
     Choice, Move, Phase, is_candidate, may_meet, move_in, move_of, phase_of, teams_of_pot,
 };
@@ -82,7 +82,7 @@ fn said_of(
     state: &State,
     answered: u64,
     code: &str,
-) -> Result<Result<Choice, Refusal>, AllocError> {
+) -> Result<Result<Action, Refusal>, AllocError> {
     let offered = offer_of(alloc, state)?;
     let command = match Code::read(code.as_bytes()) {
         Some(code) => Command::Ball(Word::Team(code)),
@@ -108,8 +108,8 @@ fn balls_are_judged(rt: HostRuntime) -> Result<(), Fail> {
     let alloc = rt.alloc();
     let state = after_villarreal(alloc)?;
     for (answered, code, said) in [
-        (0, "JUV", Ok(Choice::Team(JUVENTUS))),
-        (4095, "JUV", Ok(Choice::Team(JUVENTUS))),
+        (0, "JUV", Ok(Action::Ball(Choice::Team(JUVENTUS)))),
+        (4095, "JUV", Ok(Action::Ball(Choice::Team(JUVENTUS)))),
         (4096, "JUV", Err(Refusal::Limit)),
         (0, "juv", Err(Refusal::Form)),
         (0, "XYZ", Err(Refusal::Unknown)),
@@ -148,6 +148,9 @@ fn follow_needs_no_runtime(rt: HostRuntime) -> Result<(), Fail> {
     let mut sink = MemorySink::new(alloc, fine().room, listed(alloc, None)?)?;
     let status = follow(alloc, &asked, &mut source, &mut sink);
     assert!(rt; status == Status::Ok);
-    assert!(rt; sink.bytes() == b"draw pairing 2 teams\nnext runner-up: BBB\ndrawn BBB\nnext opponent BBB: AAA\n".as_slice());
+    assert!(rt;
+        sink.bytes()
+            == b"draw pairing 2 teams\nnext runner-up: BBB\ndrawn BBB\nnext opponent BBB: AAA\n".as_slice()
+    );
     Ok(())
 }

@@ -6,7 +6,8 @@ use crate::status::Status;
 use draw_lines::law_pieces_are_lines;
 use draw_ports::{MemorySink, MemorySource, OpenGate};
 use draw_state::{
-    law_one_run, law_one_verdict, law_replies_name_teams, law_states_stay, law_steps_below_limit,
+    law_offered_is_accepted, law_one_outcome, law_one_run, law_replies_name_teams, law_states_stay,
+    law_steps_below_limit,
 };
 use draw_tables::{
     law_legal_where_nothing_broken, law_offer_where_decided, law_offered_where_possible,
@@ -464,7 +465,8 @@ fn the_laws_return(rt: HostRuntime) {
     law_one_table_of_text();
     law_offer_exists();
     law_states_stay();
-    law_one_verdict();
+    law_one_outcome();
+    law_offered_is_accepted();
     law_steps_below_limit();
     law_replies_name_teams();
     law_one_run();

@@ -7,7 +7,7 @@ ghost use Rattle.draw_state.specs.declared.replies.Refusal.{Refusal as RefusalVa
 ghost use Rattle.draw_state.specs.declared.replies.Reply.{Reply as ReplyValue};
 
 use draw_state::{
-    Choices, Command, Moves, NextLine, Reply, State, StateFault, judge_command, next_line,
+    Action, Choices, Command, Moves, NextLine, Reply, State, StateFault, judge_command, next_line,
 };
 use draw_tables::{Choice, Move};
 use pairing_draw::plain_offer;
@@ -76,7 +76,7 @@ impl Turn {
     {
         expect_state(&self.state);
         let choice = match judge_command(&self.state, &self.offered, answered, command) {
-            Ok(choice) => choice,
+            Ok(Action::Ball(choice)) => choice,
             Err(refusal) => return Ok(Reply::Refused(refusal)),
         };
         let Some(added) = self.state.move_of(choice) else {

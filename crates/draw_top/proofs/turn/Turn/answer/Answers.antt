@@ -13,7 +13,7 @@ returns-in-Err-clause-step c = (rw (← c.self.view_is) c.in-Err.ensures.refused
 pub unreachable-requires : goal.unreachable-requires
 unreachable-requires c =
     let accepted = c.in-Ok.ensures.accepted in
-    accepted.nothing_refuses Refusal.Phase (c.in-Ok.choice, accepted.ball, c.in_default.ensures)
+    accepted.nothing_refuses Refusal.Phase (c.in-Ok.choice, accepted.asks, c.in_default.ensures)
 
 pub returns-clause-step : goal.returns-clause-step
 returns-clause-step c =
