@@ -1,8 +1,8 @@
 -- Pieces of an input, and lines without their ends.
-use Rattle.std.proofs.Common.{◌≡◌, ℕ, suc, ◌+◌, ◌<◌, ◌==◌, Bool, true, false, if◌then◌else◌, List, [], ◌∷◌, ◌++◌, length, take, drop, get_or, refl, sym, ap, ◌∙◌, eq-eqb, arith}
+use Rattle.std.proofs.Common.{◌≡◌, ℕ, suc, ◌+◌, ◌<◌, ◌==◌, Bool, true, false, if◌then◌else◌, List, [], ◌∷◌, ◌++◌, append_assoc, length, take, drop, get_or, refl, sym, ap, ◌∙◌, eq-eqb, arith}
 use Rattle.std.proofs.Math.Seq.{drop-cons, take-suc}
 use Rattle.std.proofs.lemmas.Bool.Decides.{nat_tests}
-use Rattle.draw_lines.specs.Inputs.{without_last, pieces, pieces_after}
+use Rattle.draw_lines.specs.Inputs.{without_last, line_of, DoesNotEndWith, LinesLoseTheirEnds, pieces, pieces_after}
 
 put : (c : ℕ) (t : Bool) (xs ys : List ℕ) → c ∷ (if t then xs else ys) ≡ (if t then c ∷ xs else c ∷ ys)
 put c true xs ys = refl
@@ -25,6 +25,27 @@ last_stays x b xs ys e other =
     let t : (b == x) ≡ false = grind (arith, nat_tests) in
     let h = rw t at (without_last-end x b xs) in
     rw e (sym h)
+
+-- without a last byte x all stays
+all_stays : (x : ℕ) (text : List ℕ) → DoesNotEndWith x text → text ≡ without_last x text
+all_stays x [] other = refl
+all_stays x (b ∷ []) other = last_stays x b [] (b ∷ []) refl (λ same. other [] (ap (λ c. c ∷ []) same))
+all_stays x (b ∷ c ∷ bs) other = ap (λ ys. b ∷ ys) (all_stays x (c ∷ bs) (λ front e. other (b ∷ front) (ap (λ ys. b ∷ ys) e)))
+
+-- a carriage return and a line feed fall away
+both_fall : (text : List ℕ) → line_of (text ++ 13 ∷ 10 ∷ []) ≡ text
+both_fall text =
+    let feed = last_falls 10 10 (text ++ 13 ∷ []) (text ++ 13 ∷ 10 ∷ []) (sym (append_assoc text (13 ∷ []) (10 ∷ []))) refl in
+    ap (without_last 13) (sym feed) ∙ sym (last_falls 13 13 text (text ++ 13 ∷ []) refl refl)
+
+pub lines_lose_their_ends : LinesLoseTheirEnds
+lines_lose_their_ends = record {
+  feed = λ text other. ap (without_last 13) (sym (last_falls 10 10 text (text ++ 10 ∷ []) refl refl)) ∙ sym (all_stays 13 text other);
+  return_and_feed = both_fall;
+  return_alone = λ text. ap (without_last 13) (sym (last_stays 10 13 text (text ++ 13 ∷ []) refl (λ e. cc))) ∙ sym (last_falls 13 13 text (text ++ 13 ∷ []) refl refl);
+  no_end = λ text no_return no_feed. ap (without_last 13) (sym (all_stays 10 text no_feed)) ∙ sym (all_stays 13 text no_return);
+  one_return = λ text. ap line_of (sym (append_assoc text (13 ∷ []) (13 ∷ 10 ∷ []))) ∙ both_fall (text ++ 13 ∷ []);
+}
 
 -- the first piece ends at the first line feed
 pub cut_here : (xs front back : List ℕ) (i : ℕ) → i < length xs → get_or xs i 0 ≡ 10 → front ≡ take (i + 1) xs → back ≡ drop (i + 1) xs → pieces_after (take i xs) (drop i xs) ≡ pieces xs → pieces xs ≡ front ∷ pieces back

@@ -1,9 +1,10 @@
--- The pieces of bytes are the bytes cut into lines, and no other list is.
-use Rattle.std.proofs.Common.{◌≡◌, ◌≢◌, ℕ, ◌==◌, ◌⊎◌, inl, inr, Bool, true, false, if◌then◌else◌, List, [], ◌∷◌, ◌++◌, length, length-append, append_assoc, refl, sym, ap, ◌∙◌, subst, arith}
+-- The pieces of bytes are the bytes cut into lines, and no other list is; and what stands before and after the separator.
+use Rattle.std.proofs.Common.{◌≡◌, ◌≢◌, ℕ, ◌==◌, ◌⊎◌, inl, inr, Bool, true, false, if◌then◌else◌, List, [], ◌∷◌, ◌++◌, codes, map, length, length-append, append_assoc, refl, sym, ap, ◌∙◌, subst, arith}
 use Rattle.std.proofs.lemmas.Bool.{eqb-true, eqb-false, ne_eqb}
+use Rattle.std.proofs.lemmas.Slice.Eq.{bytes_eq-Decides}
 use Rattle.std.proofs.lemmas.List.{append-nil}
 use Rattle.std.proofs.lemmas.List.Elements.{All-nil, All-cons, All-head, All-tail}
-use Rattle.draw_lines.specs.Inputs.{pieces, pieces_after, last_piece, joined, HasFeedOnlyLast, EndsWithFeed, AreLinesOf, PiecesAreLines}
+use Rattle.draw_lines.specs.Inputs.{pieces, pieces_after, last_piece, joined, HasFeedOnlyLast, EndsWithFeed, AreLinesOf, PiecesAreLines, line_of, is_separator, before_separator, after_separator, HaveNoSeparator, HeadBeforeSeparator}
 
 -- no byte is a line feed
 abbrev NoFeed : List ℕ → Type 0
@@ -145,4 +146,42 @@ pub pieces_are_lines : PiecesAreLines
 pieces_are_lines = record {
   cut = λ bytes. lines_after [] bytes tt;
   only = λ bytes ps r. only_lines ps (of_joined bytes ps r) ∙ ap pieces r.join;
+}
+
+-- the pieces before the first separator
+before_is : (before : List (List ℕ)) (at : List ℕ) (after : List (List ℕ)) → is_separator at ≡ true → HaveNoSeparator before → before_separator (before ++ at ∷ after) ≡ before
+before_is [] at after here first = rw here refl
+before_is (p ∷ ps) at after here first =
+    let other = All-head (λ q. is_separator q ≡ false) p ps first in
+    rw other (ap (λ qs. p ∷ qs) (before_is ps at after here (All-tail (λ q. is_separator q ≡ false) p ps first)))
+
+-- the pieces after the first separator
+after_is : (before : List (List ℕ)) (at : List ℕ) (after : List (List ℕ)) → is_separator at ≡ true → HaveNoSeparator before → after_separator (before ++ at ∷ after) ≡ after
+after_is [] at after here first = rw here refl
+after_is (p ∷ ps) at after here first =
+    let other = All-head (λ q. is_separator q ≡ false) p ps first in
+    rw other (after_is ps at after here (All-tail (λ q. is_separator q ≡ false) p ps first))
+
+-- without a separator all pieces stand before it
+all_before : (ps : List (List ℕ)) → HaveNoSeparator ps → before_separator ps ≡ ps
+all_before [] none = refl
+all_before (p ∷ ps) none =
+    let other = All-head (λ q. is_separator q ≡ false) p ps none in
+    rw other (ap (λ qs. p ∷ qs) (all_before ps (All-tail (λ q. is_separator q ≡ false) p ps none)))
+
+-- without a separator no piece stands after it
+none_after : (ps : List (List ℕ)) → HaveNoSeparator ps → after_separator ps ≡ []
+none_after [] none = refl
+none_after (p ∷ ps) none =
+    let other = All-head (λ q. is_separator q ≡ false) p ps none in
+    rw other (none_after ps (All-tail (λ q. is_separator q ≡ false) p ps none))
+
+pub head_before_separator : HeadBeforeSeparator
+head_before_separator = record {
+  separator = λ piece e. (bytes_eq-Decides (line_of piece) (codes "--")).0 e;
+  dashes = λ piece e. (bytes_eq-Decides (line_of piece) (codes "--")).1 e;
+  head = λ input before at after r. ap (λ ps. joined (before_separator ps)) r.whole ∙ ap joined (before_is before at after r.here r.first);
+  commands = λ input before at after r. ap (λ ps. map line_of (after_separator ps)) r.whole ∙ ap (map line_of) (after_is before at after r.here r.first);
+  all_head = λ input none. ap joined (all_before (pieces input) none) ∙ (lines_after [] input tt).join;
+  no_commands = λ input none. ap (map line_of) (none_after (pieces input) none);
 }

@@ -1,5 +1,5 @@
 -- Inputs: lines, the head and the command lines (this project's own form).
-use Rattle.std.specs.Prelude.{◌≡◌, ◌≢◌, ℕ, ◌==◌, bytes_eq, codes, Bool, if◌then◌else◌, List, [], ◌∷◌, ◌++◌, map, All}
+use Rattle.std.specs.Prelude.{◌≡◌, ◌≢◌, ℕ, ◌==◌, bytes_eq, codes, Bool, true, false, if◌then◌else◌, List, [], ◌∷◌, ◌++◌, map, All}
 
 -- the bytes that were read of a last line that has no line feed
 abbrev pub last_piece : List ℕ → List (List ℕ)
@@ -74,3 +74,34 @@ head_of input = joined (before_separator (pieces input))
 -- The command lines are the lines after the separator.
 abbrev pub command_lines : List ℕ → List (List ℕ)
 command_lines input = map line_of (after_separator (pieces input))
+
+-- the last byte of the text is not b
+abbrev pub DoesNotEndWith : ℕ → List ℕ → Type 0
+DoesNotEndWith b text = (front : List ℕ) → text ≡ front ++ b ∷ [] → ⊥
+
+-- A line loses its end and nothing else: a line feed, a carriage return and a line feed, or a carriage return; never two carriage returns.
+pub record LinesLoseTheirEnds : Type 0 where
+  pub feed : (text : List ℕ) → DoesNotEndWith 13 text → line_of (text ++ 10 ∷ []) ≡ text
+  pub return_and_feed : (text : List ℕ) → line_of (text ++ 13 ∷ 10 ∷ []) ≡ text
+  pub return_alone : (text : List ℕ) → line_of (text ++ 13 ∷ []) ≡ text
+  pub no_end : (text : List ℕ) → DoesNotEndWith 13 text → DoesNotEndWith 10 text → line_of text ≡ text
+  pub one_return : (text : List ℕ) → line_of (text ++ 13 ∷ 13 ∷ 10 ∷ []) ≡ text ++ 13 ∷ []
+
+-- no piece is a separator
+abbrev pub HaveNoSeparator : List (List ℕ) → Type 0
+HaveNoSeparator ps = All (λ p. is_separator p ≡ false) ps
+
+-- the pieces of the input: those before its first separator, that separator, and those after it
+pub record AreCutAtSeparator (input : List ℕ) (before : List (List ℕ)) (separator : List ℕ) (after : List (List ℕ)) : Type 0 where
+  pub whole : pieces input ≡ before ++ separator ∷ after
+  pub here : is_separator separator ≡ true
+  pub first : HaveNoSeparator before
+
+-- The head is what stands before the first separator, the line --, and the command lines are the lines after it. Without a separator all is head.
+pub record HeadBeforeSeparator : Type 0 where
+  pub separator : (piece : List ℕ) → is_separator piece ≡ true → line_of piece ≡ codes "--"
+  pub dashes : (piece : List ℕ) → line_of piece ≡ codes "--" → is_separator piece ≡ true
+  pub head : (input : List ℕ) (before : List (List ℕ)) (at : List ℕ) (after : List (List ℕ)) → AreCutAtSeparator input before at after → head_of input ≡ joined before
+  pub commands : (input : List ℕ) (before : List (List ℕ)) (at : List ℕ) (after : List (List ℕ)) → AreCutAtSeparator input before at after → command_lines input ≡ map line_of after
+  pub all_head : (input : List ℕ) → HaveNoSeparator (pieces input) → head_of input ≡ input
+  pub no_commands : (input : List ℕ) → HaveNoSeparator (pieces input) → command_lines input ≡ []

@@ -1,5 +1,5 @@
 ghost use Rattle.std.specs.Prelude.{◌≡◌, ◌<◌, ◌++◌, [], ◌∷◌, List, ℕ, length, MatchOption, IfSome};
-ghost use Rattle.draw_lines.specs.Inputs.{pieces, after_separator, is_separator, without_last, line_of, lines_of, head_of, command_lines, PiecesAreLines};
+ghost use Rattle.draw_lines.specs.Inputs.{pieces, after_separator, is_separator, without_last, line_of, lines_of, head_of, command_lines, PiecesAreLines, LinesLoseTheirEnds, HeadBeforeSeparator};
 
 /// The head of an input, and what follows the separator line, byte for byte. Takes no memory.
 pub fn split_input(bytes: &[u8]) -> (&[u8], &[u8])
@@ -78,4 +78,18 @@ fn without_last(bytes: &[u8], byte: u8) -> &[u8]
 /// nothing.
 pub fn law_pieces_are_lines()
     ensures { PiecesAreLines }
+{}
+
+/// A line is a piece without its end: without its line feed, without a carriage return and a line
+/// feed, or without a carriage return. Of two carriage returns one stays, and a piece that ends in
+/// neither is its own line. Does nothing.
+pub fn law_lines_lose_their_ends()
+    ensures { LinesLoseTheirEnds }
+{}
+
+/// The head is the bytes before the first separator, a piece whose line is `--`, and the command
+/// lines are the lines of the pieces after it. Where no piece is a separator, the head is the whole
+/// input, and there are no command lines. Does nothing.
+pub fn law_head_before_separator()
+    ensures { HeadBeforeSeparator }
 {}

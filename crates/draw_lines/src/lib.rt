@@ -7,7 +7,10 @@ mod tests;
 mod texts;
 mod words;
 
-pub use inputs::{first_line, law_pieces_are_lines, split_input};
+pub use inputs::{
+    first_line, law_head_before_separator, law_lines_lose_their_ends, law_pieces_are_lines,
+    split_input,
+};
 pub use std::alloc::AllocError as NoMemory;
 pub use texts::{opening_text, reply_text};
 pub use words::read_line;

@@ -1,0 +1,5 @@
+use Rattle.draw_lines.proofs.Lines.{head_before_separator}
+use Rattle.draw_lines.proofs.inputs.law_head_before_separator.Goals as goal
+
+pub returns : goal.returns
+returns c = head_before_separator
