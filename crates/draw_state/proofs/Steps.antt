@@ -86,7 +86,7 @@ steps_below_limit file ms answered command new_ms reply below =
 
 -- ---- names
 
-last_named : (file : DrawFile) (ms added : List Move) → AreFileMoves file (ms ++ added) → AreFileMoves file added
+pub last_named : (file : DrawFile) (ms added : List Move) → AreFileMoves file (ms ++ added) → AreFileMoves file added
 last_named file [] added h = h
 last_named file (m ∷ ms) added h = last_named file ms added h.1
 

@@ -1,7 +1,9 @@
 -- The opening and the reply to one line, as texts.
-use Rattle.std.specs.Prelude.{◌≡◌, ℕ, List}
+use Rattle.std.specs.Prelude.{◌≡◌, ◌++◌, ℕ, List}
+use Rattle.draw_tables.specs.declared.moves.Choice.{Choice}
 use Rattle.draw_state.specs.declared.replies.NextLine.{NextLine}
 use Rattle.draw_state.specs.declared.replies.Reply.{Reply}
+use Rattle.draw_state.specs.Commands.{Adds}
 use Rattle.draw_state.specs.Runs.{IsNextLine, IsStep}
 use Rattle.draw_lines.specs.Words.{command_of}
 use Rattle.draw_lines.specs.Texts.{opening_text, reply_text}
@@ -15,3 +17,9 @@ IsOpeningOf turn text = (next : NextLine) × IsNextLine turn.file turn.moves nex
 abbrev pub IsReplyTo : Turn → Turn → ℕ → List ℕ → List ℕ → Type 0
 IsReplyTo old new answered line text =
     (reply : Reply) × IsStep old.file old.moves answered (command_of line) new.moves reply × (text ≡ reply_text old.file reply)
+
+-- the reply to an accepted ball of the choice, which leads from the one turn to the other
+abbrev pub TakesBall : Turn → Turn → Choice → Reply → Type 0
+TakesBall old new c (Reply.Refused refusal) = ⊥
+TakesBall old new c (Reply.Taken added next) =
+    Adds old.file old.moves c added × (new.moves ≡ old.moves ++ added) × IsNextLine old.file new.moves next

@@ -1,8 +1,10 @@
 ghost use Rattle.std.specs.Prelude.{◌≡◌, [], ◌∷◌, ◌++◌, IfOk, OnErr, Ok};
 ghost use Rattle.draw_tables.specs.States.{IsCandidateMove, IsState};
-ghost use Rattle.draw_tables.specs.Offers.{IsOffer};
+ghost use Rattle.draw_tables.specs.Offers.{IsOffer, IsPossible};
+ghost use Rattle.draw_top.specs.Replies.{TakesBall};
 ghost use Rattle.draw_state.specs.Runs.{IsNextLine, IsStep};
 ghost use Rattle.draw_state.specs.Replies.{IsFileNextLine, IsFileReply};
+ghost use Rattle.draw_state.specs.declared.commands.Action.{Action as ActionValue};
 ghost use Rattle.draw_state.specs.declared.replies.Refusal.{Refusal as RefusalValue};
 ghost use Rattle.draw_state.specs.declared.replies.Reply.{Reply as ReplyValue};
 
@@ -74,11 +76,22 @@ impl Turn {
         ensures file { self.new.file ≡ self.old.file }
         ensures err { OnErr result (self.new ≡ self.old) }
     {
-        expect_state(&self.state);
-        let choice = match judge_command(&self.state, &self.offered, answered, command) {
-            Ok(Action::Ball(choice)) => choice,
+        let action = match judge_command(&self.state, &self.offered, answered, command) {
+            Ok(action) => action,
             Err(refusal) => return Ok(Reply::Refused(refusal)),
         };
+        self.take(alloc, ball_of(action))
+    }
+
+    /// Takes a ball of the offer.
+    fn take(&mut self, alloc: Global, choice: Choice) -> Result<Reply, AllocError>
+        requires { IsPossible self.old.file self.old.moves choice }
+        ensures taken { IfOk result (λ r. TakesBall self.old self.new choice r) }
+        ensures of_file { IfOk result (λ r. IsFileReply self.old.file r) }
+        ensures file { self.new.file ≡ self.old.file }
+        ensures err { OnErr result (self.new ≡ self.old) }
+    {
+        expect_state(&self.state);
         let Some(added) = self.state.move_of(choice) else {
             unreachable!()
         };
@@ -165,4 +178,13 @@ fn expect_state(state: &State)
     ensures { IsState state.now.file state.now.moves }
 {
     state.file();
+}
+
+/// The choice of the ball that an action is.
+fn ball_of(action: Action) -> Choice
+    ensures { action ≡ ActionValue.Ball result }
+{
+    match action {
+        Action::Ball(choice) => choice,
+    }
 }
