@@ -86,7 +86,7 @@ sizes_are Kind.Pairing d ts e =
     let two : pot_size 2 ts ≡ size_of_pot 2 d = rw (← e) (counted 2 ts) in
     rw (← one) (rw (← two) refl)
 
--- The steps of reading a head of a kind, each from its end to that of the whole.
+-- The steps of reading a head, from the last ones to the whole.
 module _ (d : Data) where
   last : (fields : HeadFields) (ts : List Team) → codes_of ts ≡ codes_in d → map (λ t. t.pot) ts ≡ team_pots d
       → result_err (unless (same_code_fault ts) (unless (pot_size_fault (kind_at d) ts) (Ok (head_with (kind_at d) fields ts)))) ≡ first_of (same_in d ∷ sizes_in d ∷ [])

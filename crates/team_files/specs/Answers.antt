@@ -16,8 +16,3 @@ unless None rest = rest
 abbrev pub Gives : {A : Type 0} → Result A FileFault → Result A FileFault → Type 0
 Gives (Ok a) said = said ≡ Ok a
 Gives (Err fault) said = fault ≢ FileFault.NoMemory → said ≡ Err fault
-
--- the call passes where there is no fault and answers the fault that there is, but for want of memory
-abbrev pub Passes : {A : Type 0} → Result A FileFault → Option FileFault → Type 0
-Passes (Ok a) said = said ≡ None
-Passes (Err fault) said = fault ≢ FileFault.NoMemory → said ≡ Some fault

@@ -21,8 +21,8 @@ team_values d = unwrap_or (list_in (codes "teams") d) []
 abbrev pub pair_values : Data → List Data
 pair_values d = unwrap_or (list_in (codes "pairs") d) []
 
--- The kind and the number of pots. Where the value gives none, that is told first, and the faults behind it are those of a
--- pairing, or of no pots.
+-- The kind and the number of pots, which later faults go by. A value that gives none has that fault first, and its later
+-- faults are those of a pairing, or of a head without pots.
 abbrev pub kind_at : Data → Kind
 kind_at d = unwrap_or (option_and_then kind_named (text_in (codes "kind") d)) Kind.Pairing
 
@@ -69,7 +69,8 @@ HasKindNotBuilt d = (text : List ℕ) × HasKind d text × (is_not_built text �
 abbrev pub MissesField : Data → Field → Type 0
 MissesField d member = missing_fault (kind_at d) d ≡ Some (FileFault.FieldMissing member)
 
--- ---- 5 FieldWrong: the first member of another form or range, where the members of each team stand behind `teams`
+-- ---- 5 FieldWrong: the first member of another form or range; the members of each team follow `teams`, and `pairs` stand
+-- ---- between the limits and the places
 
 abbrev pub wrong_if : Bool → Field → Option FileFault
 wrong_if wrong field = if wrong then Some (FileFault.FieldWrong field) else None

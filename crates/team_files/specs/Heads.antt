@@ -64,11 +64,11 @@ kind_of d = if lacks (codes "kind") d then Err (FileFault.FieldMissing Field.Kin
 abbrev pub missing_if : Bool → Field → Option FileFault
 missing_if absent field = if absent then Some (FileFault.FieldMissing field) else None
 
--- in the head
+-- in the head itself
 abbrev pub missing_in_head : Kind → Data → Option FileFault
 missing_in_head Kind.Pairing d = missing_if (lacks (codes "teams") d) Field.Teams
 
--- the letter of a team's first-round group
+-- in a team of a pairing, the letter of its first-round group
 abbrev pub missing_letter : Kind → Data → Option FileFault
 missing_letter Kind.Pairing d = missing_if (lacks (codes "group") d) Field.Group
 

@@ -26,9 +26,9 @@ use std::alloc::Global;
 /// `FieldMissing`, `FieldWrong`, `KindUnknown`, or `KindNotBuilt` where it is `group` or `league`.
 /// Then, each over the whole head: the first needed member that is absent, `FieldMissing`; the
 /// first member of another form or range, `FieldWrong`; more than `MOST_TEAMS` teams or more than
-/// `MOST_PAIRS` pairs, `TooMany`; the first team without a code, `BadCode`; the first team with an earlier one's code,
-/// `SameCode`; pot 1 empty or pot 2 not of its size, `PotSize`. `NoMemory` can come in place of any
-/// of them.
+/// `MOST_PAIRS` pairs, `TooMany`; the first team without a code, `BadCode`; the first team with an
+/// earlier one's code, `SameCode`; pot 1 empty or pot 2 not of its size, `PotSize`. `NoMemory` can
+/// come in place of any of them.
 pub fn read_head(alloc: Global, bytes: &[u8]) -> Result<Head, FileFault>
     ensures ok { IfOk result (λ head. IsHead bytes.now head) }
     ensures fault { IfErr result (λ f. f ≢ FileFault.NoMemory → IsHeadFault bytes.now f) }
