@@ -1,6 +1,7 @@
 pub mod Turns
 pub mod Rights
 pub mod Faults
+pub mod Outside
 pub mod Follow
 pub mod Outputs
 pub mod Replies
@@ -8,3 +9,6 @@ pub mod Laws
 pub mod Statuses
 pub mod Check
 pub mod Reports
+pub mod Modes
+pub mod Endings
+pub mod Transfers
