@@ -1,5 +1,5 @@
 -- What was read to its end is what the source held.
-use Rattle.std.proofs.Common.{◌≡◌, ℕ, List, ◌++◌, Option, Some, None, Result, Ok, Err, inl, inr, sym, ap, subst, ◌∙◌, append-nil, length, ◌<◌, ◌≤◌, arith}
+use Rattle.std.proofs.Common.{◌≡◌, ℕ, ◌≤◌, List, ◌++◌, Option, Some, None, Result, Ok, Err, inl, inr, refl, sym, ap, subst, ◌∙◌, append-nil, length, arith}
 use Rattle.std.specs.Prelude.{IfSome, IsSomeAnd}
 use Rattle.std.specs.Io.KnownBytes.{Consumes, IsAtEnd, Appends}
 use Rattle.draw_ports.specs.Causes.{AppendsSome}
@@ -7,7 +7,11 @@ use Rattle.team_files.specs.declared.fault.FileFault.{FileFault}
 use Rattle.team_files.specs.Heads.{Head, head_of as read_head}
 use Rattle.rule_sets.specs.Files.{DrawFile, file_of, IsFileOf, IsFileFault}
 use Rattle.draw_lines.specs.Inputs.{head_of}
-use Rattle.draw_top.specs.Follow.{IsAnswerOf, IsRefusalOf, HasFile, Gains, GainsSome, input_limit}
+use Rattle.draw_top.specs.Outside.{Gains, GainsSome}
+use Rattle.draw_top.specs.Follow.{IsAnswerOf, IsRefusalOf, HasFile}
+use Rattle.draw_top.specs.declared.status.Status.{Status}
+use Rattle.draw_top.specs.Modes.{Follow, limit_of}
+use Rattle.draw_top.specs.Endings.{IsDecided}
 
 -- what the source told is what was read
 pub read_all_of : (input : List ℕ) (left rest : Option (List ℕ)) (P : List ℕ → Type 0) → Consumes left rest input → IsAtEnd rest → P input → IfSome left P
@@ -58,6 +62,18 @@ not_refused input text h r = excluded (head_of input) h.0 r.0 h.1 r.1
 pub not_answered : (input text : List ℕ) → (HasFile input → ⊥) → IsAnswerOf input text → ⊥
 not_answered input text h r = h (r.0, r.1)
 
--- An input that was read is not too long.
-pub not_too_long : (input : List ℕ) → length input ≤ input_limit → input_limit < length input → ⊥
-not_too_long input le lt = omega arith
+-- ---- an input that is answered or refused calls for no other status
+
+pub answer_decides : (input text : List ℕ) (called : Status)
+    → length input ≤ limit_of Follow → IsAnswerOf input text → IsDecided Follow input called → Status.Ok ≡ called
+answer_decides input text Status.Ok fits is decided = refl
+answer_decides input text Status.FileRefused fits is decided = absurd (not_answered input text decided.1 is)
+answer_decides input text Status.TooLong fits is decided = absurd (omega arith)
+answer_decides input text called fits is decided = absurd decided
+
+pub refusal_decides : (input text : List ℕ) (called : Status)
+    → length input ≤ limit_of Follow → IsRefusalOf input text → IsDecided Follow input called → Status.FileRefused ≡ called
+refusal_decides input text Status.FileRefused fits is decided = refl
+refusal_decides input text Status.Ok fits is decided = absurd (not_refused input text decided.1 is)
+refusal_decides input text Status.TooLong fits is decided = absurd (omega arith)
+refusal_decides input text called fits is decided = absurd decided

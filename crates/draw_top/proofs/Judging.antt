@@ -1,13 +1,17 @@
 -- An input is approved of, objected to or refused, and one of them only.
-use Rattle.std.proofs.Common.{◌≡◌, ℕ, List, [], ◌∷◌, inl, inr, sym, ◌∙◌, subst, ◌⊎◌}
+use Rattle.std.proofs.Common.{◌≡◌, ℕ, ◌≤◌, List, [], ◌∷◌, length, inl, inr, refl, sym, ◌∙◌, subst, ◌⊎◌, arith}
 use Rattle.rule_sets.specs.Files.{DrawFile, IsFileOf, IsWellFormed}
 use Rattle.draw_tables.specs.declared.table.Table.{Table}
 use Rattle.draw_tables.specs.Tables.{IsLegal}
 use Rattle.draw_tables.specs.TableTexts.{IsTextOf, OneTableOfText}
 use Rattle.draw_tables.specs.Verdicts.{NoneBrokenWhereLegal}
 use Rattle.draw_lines.specs.Inputs.{head_of, command_lines}
-use Rattle.draw_top.specs.Follow.{HasFile}
+use Rattle.draw_top.specs.declared.status.Status.{Status}
+use Rattle.draw_top.specs.Follow.{HasFile, IsRefusalOf}
 use Rattle.draw_top.specs.Check.{AreTableLine, AreLegal, TellsBroken, TellsNoTable, IsLegalInput, IsObjectionTo}
+use Rattle.draw_top.specs.Modes.{Judge, limit_of}
+use Rattle.draw_top.specs.Endings.{IsDecided}
+use Rattle.draw_top.proofs.Gains.{not_refused}
 use Rattle.draw_top.proofs.Function.{files_once}
 
 formed : (bytes : List ℕ) (file : DrawFile) → IsFileOf bytes file → IsWellFormed file
@@ -45,3 +49,30 @@ legal_has_file input h = (h.0, h.1)
 -- An input that is objected to has a file.
 pub objection_has_file : (input text : List ℕ) → IsObjectionTo input text → HasFile input
 objection_has_file input text h = (h.0, h.1)
+
+-- ---- an input of which this is said calls for no other status
+
+pub legal_decides : (input : List ℕ) (called : Status)
+    → length input ≤ limit_of Judge → IsLegalInput input → IsDecided Judge input called → Status.Ok ≡ called
+legal_decides input Status.Ok fits is decided = refl
+legal_decides input Status.NotValid fits is decided = absurd (decided.2 is)
+legal_decides input Status.FileRefused fits is decided = absurd (decided.1 (legal_has_file input is))
+legal_decides input Status.TooLong fits is decided = absurd (omega arith)
+legal_decides input called fits is decided = absurd decided
+
+module _ (one : OneTableOfText) (none : NoneBrokenWhereLegal) where
+  pub objection_decides : (input text : List ℕ) (called : Status)
+      → length input ≤ limit_of Judge → IsObjectionTo input text → IsDecided Judge input called → Status.NotValid ≡ called
+  objection_decides input text Status.NotValid fits is decided = refl
+  objection_decides input text Status.Ok fits is decided = absurd (not_both one none input text decided.1 is)
+  objection_decides input text Status.FileRefused fits is decided = absurd (decided.1 (objection_has_file input text is))
+  objection_decides input text Status.TooLong fits is decided = absurd (omega arith)
+  objection_decides input text called fits is decided = absurd decided
+
+pub refusal_decides : (input text : List ℕ) (called : Status)
+    → length input ≤ limit_of Judge → IsRefusalOf input text → IsDecided Judge input called → Status.FileRefused ≡ called
+refusal_decides input text Status.FileRefused fits is decided = refl
+refusal_decides input text Status.Ok fits is decided = absurd (not_refused input text (legal_has_file input decided.1) is)
+refusal_decides input text Status.NotValid fits is decided = absurd (not_refused input text decided.1 is)
+refusal_decides input text Status.TooLong fits is decided = absurd (omega arith)
+refusal_decides input text called fits is decided = absurd decided

@@ -4,3 +4,4 @@ pub mod Gains
 pub mod Function
 pub mod Words
 pub mod Judging
+pub mod Ended

@@ -1,5 +1,5 @@
 -- What `drawcheck judge` writes: what the written rules say of a table.
-use Rattle.std.specs.Prelude.{◌≡◌, ℕ, ◌≤◌, List, [], ◌∷◌, ◌++◌, length, codes, Option, IsSomeAnd, ◌⊎◌}
+use Rattle.std.specs.Prelude.{◌≡◌, ℕ, List, [], ◌∷◌, ◌++◌, codes, Option, ◌⊎◌}
 use Rattle.std.specs.Fmt.{decimal}
 use Rattle.rule_sets.specs.Files.{DrawFile, IsFileOf}
 use Rattle.draw_tables.specs.declared.table.Table.{Table}
@@ -7,14 +7,11 @@ use Rattle.draw_tables.specs.Tables.{IsLegal}
 use Rattle.draw_tables.specs.TableTexts.{IsTextOf}
 use Rattle.draw_tables.specs.Verdicts.{IsFirstBroken}
 use Rattle.draw_lines.specs.Inputs.{head_of, command_lines}
-use Rattle.draw_top.specs.Follow.{Gains, GainsSome, HasFile, IsRefusalOf, input_limit}
+use Rattle.draw_top.specs.Outside.{Gains}
 
 -- The words' one form: the word judge alone.
 abbrev pub IsJudge : List (List ℕ) → Type 0
 IsJudge words = words ≡ codes "judge" ∷ []
-
-abbrev pub check_usage_line : List ℕ
-check_usage_line = codes "usage: drawcheck judge|audit|replay\n"
 
 -- The lines are exactly one line, the text of this table of the file.
 abbrev pub AreTableLine : DrawFile → List (List ℕ) → Table → Type 0
@@ -52,22 +49,10 @@ abbrev pub IsObjectionTo : List ℕ → List ℕ → Type 0
 IsObjectionTo input text = (file : DrawFile) × IsFileOf (head_of input) file
     × (TellsBroken file (command_lines input) text ⊎ TellsNoTable file (command_lines input) text)
 
--- ---- what the sink gained, where the source tells what it held
+-- ---- what the sink gained of what the source held, where they tell it
 
 abbrev pub GainsApproval : Option (List ℕ) → Option (List ℕ) → Option (List ℕ) → Type 0
 GainsApproval left old new = Gains IsApprovalOf left old new
 
 abbrev pub GainsObjection : Option (List ℕ) → Option (List ℕ) → Option (List ℕ) → Type 0
 GainsObjection left old new = Gains IsObjectionTo left old new
-
--- some first bytes of what it was to gain
-abbrev pub GainsReportPart : Option (List ℕ) → Option (List ℕ) → Option (List ℕ) → Type 0
-GainsReportPart left old new = GainsSome (λ input text. IsApprovalOf input text ⊎ (IsObjectionTo input text ⊎ IsRefusalOf input text)) left old new
-
--- the source tells that it held a draw file with a legal table, within the limit
-abbrev pub HoldsLegal : Option (List ℕ) → Type 0
-HoldsLegal left = IsSomeAnd left (λ input. (length input ≤ input_limit) × IsLegalInput input)
-
--- the source tells that it held an input within the limit that has a draw file and no legal table
-abbrev pub HoldsIllegal : Option (List ℕ) → Type 0
-HoldsIllegal left = IsSomeAnd left (λ input. (length input ≤ input_limit) × HasFile input × (IsLegalInput input → ⊥))

@@ -1,5 +1,6 @@
 pub mod Turns
 pub mod Faults
+pub mod Outside
 pub mod Follow
 pub mod Outputs
 pub mod Replies
@@ -7,3 +8,6 @@ pub mod Laws
 pub mod Statuses
 pub mod Check
 pub mod Reports
+pub mod Modes
+pub mod Endings
+pub mod Transfers

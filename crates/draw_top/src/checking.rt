@@ -1,31 +1,34 @@
 //! The top call of the program `drawcheck`: what the written rules say of a table.
 
-ghost use Rattle.std.specs.Prelude.{◌≡◌, ◌≢◌, ◌≤◌, ◌∷◌, [], ◌⊎◌, List, ℕ, IfOk, MatchOption, true, false};
-ghost use Rattle.std.specs.Io.KnownBytes.{Appends, Keeps, IsAtEnd};
-ghost use Rattle.draw_ports.specs.Causes.{Rose, AppendsSome};
+ghost use Rattle.std.specs.Prelude.{◌≡◌, ◌∷◌, [], ◌⊎◌, ◌↔◌, List, ℕ, IfOk, IsTrue, MatchOption};
 ghost use Rattle.draw_tables.specs.declared.table.Table.{Table as TableValue};
 ghost use Rattle.draw_lines.specs.Inputs.{lines_of};
-ghost use Rattle.draw_top.specs.Follow.{words_of, GainsRefusal, FitsLimit, PassesLimit, HoldsNoFile, TellsTooMuch};
-ghost use Rattle.draw_top.specs.Check.{AreTableLine, IsJudge, check_usage_line, broken_line, GainsApproval, GainsObjection, GainsReportPart, HoldsLegal, HoldsIllegal};
+ghost use Rattle.draw_top.specs.declared.status.Status.{Status as StatusValue};
+ghost use Rattle.draw_top.specs.Outside.{outside, NothingFailed};
+ghost use Rattle.draw_top.specs.Follow.{words_of};
+ghost use Rattle.draw_top.specs.Check.{AreTableLine, IsJudge, broken_line};
+ghost use Rattle.draw_top.specs.Check.{GainsApproval, GainsObjection};
 ghost use Rattle.draw_top.specs.Reports.{IsTableReport, IsReportOf};
+ghost use Rattle.draw_top.specs.Modes.{Mode, AsksFor, Drawcheck, Judge};
+ghost use Rattle.draw_top.specs.Endings.{EndsAs, Ends, CallsFor};
 
-use crate::heads::{INPUT_LIMIT, file_of_head, refusal_line};
+use crate::endings::{finish, read_input};
+use crate::heads::{INPUT_LIMIT, refusal_line};
 use crate::status::Status;
 use draw_lines::{first_line, split_input};
-use draw_ports::{PortFault, Sink, Source, put_all, read_all};
+use draw_ports::{Sink, Source};
 use draw_tables::{
     Table, TableFault, Verdict, judge, law_legal_where_nothing_broken, law_one_table_of_text,
     read_table,
 };
-use rule_sets::DrawFile;
+use rule_sets::{DrawFile, read_file};
 use std::alloc::{AllocError, Global};
 
 const CHECK_USAGE: &[u8] = b"usage: drawcheck judge|audit|replay\n";
 
 /// Whether the words are the one form, `judge` alone.
 fn is_judge(words: &[String]) -> bool
-    ensures yes { result ≡ true → IsJudge (words_of words.now) }
-    ensures no { result ≡ false → IsJudge (words_of words.now) → ⊥ }
+    ensures { IsTrue result ↔ IsJudge (words_of words.now) }
 {
     match words {
         [word] => word.as_str() == "judge",
@@ -49,7 +52,7 @@ fn report_of(alloc: Global, input: &[u8]) -> Result<Report, AllocError>
     ensures { IfOk result (λ report. IsReportOf input.now report) }
 {
     let (head, commands) = split_input(input);
-    match file_of_head(alloc, head) {
+    match read_file(alloc, head) {
         Ok(file) => {
             let report = table_report(alloc, &file, commands)?;
             Ok(report)
@@ -120,91 +123,75 @@ fn broken_line(alloc: Global, rule: u32, first: u32, second: u32) -> Result<Vec<
     Ok(line.into_bytes())
 }
 
+/// Reads an input to its end and writes what is said of it. The order of the causes is ReadFault,
+/// TooLong, FileRefused, NotValid.
+fn judge_input<S: Source, K: Sink>(alloc: Global, src: &mut S, out: &mut K) -> Status
+    ensures ends { EndsAs Judge result
+        (outside (S.left src.old) (K.wrote out.old) (S.faults src.old) (K.faults out.old))
+        (outside (S.left src.new) (K.wrote out.new) (S.faults src.new) (K.faults out.new)) }
+    ensures complete { (status : StatusValue) → CallsFor Judge (S.left src.old) status
+        → NothingFailed
+        (outside (S.left src.old) (K.wrote out.old) (S.faults src.old) (K.faults out.old))
+        (outside (S.left src.new) (K.wrote out.new) (S.faults src.new) (K.faults out.new))
+        → (result ≡ status) ⊎ (result ≡ Status.NoMemory) }
+{
+    let input = match read_input(alloc, src, INPUT_LIMIT) {
+        Ok(input) => input,
+        Err(status) => return status,
+    };
+    // For the clause `complete`: a text is of one table, and what breaks no rule is legal.
+    law_one_table_of_text();
+    law_legal_where_nothing_broken();
+    match report_of(alloc, &input) {
+        Ok(Report::Legal) => finish(out, b"legal\n", Status::Ok),
+        Ok(Report::NotValid(line)) => finish(out, &line, Status::NotValid),
+        Ok(Report::Refused(line)) => finish(out, &line, Status::FileRefused),
+        Err(_) => Status::NoMemory,
+    }
+}
+
 /// The top call of the program `drawcheck`. `words` are the words after the program's name. It
 /// reads an input to its end, a draw file's head, the separator and one table line, and writes
 /// `legal`, the first case of the first broken rule, or that there is no table; where the head has
 /// no draw file it writes the line of the first fault. Where the words are not `judge` alone it
-/// writes the usage line and reads nothing. The order of the causes is Usage, ReadFault, TooLong,
-/// FileRefused, NotValid. It waits for nobody and always returns.
+/// writes the usage line and reads nothing. It ends with
+///
+/// - `Ok` where the table is legal, and `legal` was written;
+/// - `Usage` where the words are not `judge` alone, and the usage line was written;
+/// - `FileRefused` where the head has no draw file, and the line of its first fault was written;
+/// - `ReadFault` where the source failed, and nothing was written;
+/// - `WriteFault` where the sink failed, after some first bytes of what was to be written;
+/// - `NoMemory` where no memory was left, and nothing was written;
+/// - `TooLong` where the source held more than 4,194,304 bytes, and nothing was written;
+/// - `NotValid` where the table is not legal or there is none, and what is wrong was written.
+///
+/// The order of the causes is Usage, ReadFault, TooLong, FileRefused, NotValid. It waits for nobody
+/// and always returns.
 pub fn run_check<S: Source, K: Sink>(
     alloc: Global,
     words: &[String],
     src: &mut S,
     out: &mut K,
 ) -> Status
-    // Ok exactly for a legal table, with the source at its end.
-    ensures ok { result ≡ Status.Ok → GainsApproval (S.left src.old) (K.wrote out.old) (K.wrote out.new) }
-    ensures ok_end { result ≡ Status.Ok → IsAtEnd (S.left src.new) }
-    ensures ok_fits { result ≡ Status.Ok → FitsLimit (S.left src.old) }
-    // NotValid exactly for a table that is not legal, and where there is no table.
-    ensures not_valid { result ≡ Status.NotValid → GainsObjection (S.left src.old) (K.wrote out.old) (K.wrote out.new) }
-    ensures not_valid_end { result ≡ Status.NotValid → IsAtEnd (S.left src.new) }
-    ensures not_valid_fits { result ≡ Status.NotValid → FitsLimit (S.left src.old) }
-    // Usage exactly by the words.
-    ensures usage { result ≡ Status.Usage → IsJudge (words_of words.now) → ⊥ }
-    ensures usage_line { result ≡ Status.Usage → Appends (K.wrote out.old) (K.wrote out.new) check_usage_line }
-    ensures usage_reads_nothing { (IsJudge (words_of words.now) → ⊥) → (S.left src.new ≡ S.left src.old) × (S.faults src.new ≡ S.faults src.old) }
-    ensures no_form { (IsJudge (words_of words.now) → ⊥) → (result ≡ Status.Usage) ⊎ (result ≡ Status.WriteFault) }
-    // A head without a file, whose source was read to its end.
-    ensures refused { result ≡ Status.FileRefused → GainsRefusal (S.left src.old) (K.wrote out.old) (K.wrote out.new) }
-    ensures refused_end { result ≡ Status.FileRefused → IsAtEnd (S.left src.new) }
-    ensures refused_fits { result ≡ Status.FileRefused → FitsLimit (S.left src.old) }
-    // A fault only where that object's count rose in this call; after a failed `put` or `take` no other status.
-    ensures read { result ≡ Status.ReadFault → Rose (S.faults src.old) (S.faults src.new) }
-    ensures source_quiet { result ≢ Status.ReadFault → S.faults src.new ≡ S.faults src.old }
-    ensures sink_quiet { result ≢ Status.WriteFault → K.faults out.new ≡ K.faults out.old }
-    ensures read_none { result ≡ Status.ReadFault → Keeps (K.wrote out.old) (K.wrote out.new) }
-    ensures write { result ≡ Status.WriteFault → Rose (K.faults out.old) (K.faults out.new) }
-    ensures write_part { result ≡ Status.WriteFault → IsJudge (words_of words.now) → GainsReportPart (S.left src.old) (K.wrote out.old) (K.wrote out.new) }
-    ensures write_end { result ≡ Status.WriteFault → IsJudge (words_of words.now) → IsAtEnd (S.left src.new) }
-    ensures write_usage { result ≡ Status.WriteFault → (IsJudge (words_of words.now) → ⊥) → AppendsSome (K.wrote out.old) (K.wrote out.new) check_usage_line }
-    // Too long exactly by the number of bytes, where no read failed.
-    ensures too_long { result ≡ Status.TooLong → PassesLimit (S.left src.old) }
-    ensures too_long_none { result ≡ Status.TooLong → Keeps (K.wrote out.old) (K.wrote out.new) }
-    ensures no_memory_none { result ≡ Status.NoMemory → Keeps (K.wrote out.old) (K.wrote out.new) }
+    // The promises: what the sink gained tells whether the source's bytes hold a legal table.
+    ensures approval { AsksFor Drawcheck (words_of words.now) Judge → result ≡ Status.Ok
+        → GainsApproval (S.left src.old) (K.wrote out.old) (K.wrote out.new) }
+    ensures objection { AsksFor Drawcheck (words_of words.now) Judge → result ≡ Status.NotValid
+        → GainsObjection (S.left src.old) (K.wrote out.old) (K.wrote out.new) }
+    // Each status and its cause.
+    ensures ends { Ends Drawcheck result (words_of words.now)
+        (outside (S.left src.old) (K.wrote out.old) (S.faults src.old) (K.faults out.old))
+        (outside (S.left src.new) (K.wrote out.new) (S.faults src.new) (K.faults out.new)) }
     // The right words and no fault: by the bytes alone, or no memory.
-    ensures complete { IsJudge (words_of words.now) → HoldsLegal (S.left src.old)
-        → (Rose (S.faults src.old) (S.faults src.new) → ⊥) → (Rose (K.faults out.old) (K.faults out.new) → ⊥)
-        → (result ≡ Status.Ok) ⊎ (result ≡ Status.NoMemory) }
-    ensures complete_not_valid { IsJudge (words_of words.now) → HoldsIllegal (S.left src.old)
-        → (Rose (S.faults src.old) (S.faults src.new) → ⊥) → (Rose (K.faults out.old) (K.faults out.new) → ⊥)
-        → (result ≡ Status.NotValid) ⊎ (result ≡ Status.NoMemory) }
-    ensures complete_refused { IsJudge (words_of words.now) → HoldsNoFile (S.left src.old)
-        → (Rose (S.faults src.old) (S.faults src.new) → ⊥) → (Rose (K.faults out.old) (K.faults out.new) → ⊥)
-        → (result ≡ Status.FileRefused) ⊎ (result ≡ Status.NoMemory) }
-    ensures complete_too_long { IsJudge (words_of words.now) → TellsTooMuch (S.left src.old)
-        → (Rose (S.faults src.old) (S.faults src.new) → ⊥) → (Rose (K.faults out.old) (K.faults out.new) → ⊥)
-        → (result ≡ Status.TooLong) ⊎ (result ≡ Status.NoMemory) }
+    ensures complete { (mode : Mode) (status : StatusValue)
+        → AsksFor Drawcheck (words_of words.now) mode → CallsFor mode (S.left src.old) status
+        → NothingFailed
+        (outside (S.left src.old) (K.wrote out.old) (S.faults src.old) (K.faults out.old))
+        (outside (S.left src.new) (K.wrote out.new) (S.faults src.new) (K.faults out.new))
+        → (result ≡ status) ⊎ (result ≡ Status.NoMemory) }
 {
     if !is_judge(words) {
-        return match put_all(out, CHECK_USAGE) {
-            Ok(()) => Status::Usage,
-            Err(_) => Status::WriteFault,
-        };
+        return finish(out, CHECK_USAGE, Status::Usage);
     }
-    let input = match read_all(alloc, src, INPUT_LIMIT) {
-        Ok(input) => input,
-        Err(PortFault::Read) => return Status::ReadFault,
-        Err(PortFault::TooLong { limit: _ }) => return Status::TooLong,
-        Err(_) => return Status::NoMemory,
-    };
-    // For the clauses `complete` and `complete_not_valid`: a text is of one table, and what breaks no
-    // rule is legal.
-    law_one_table_of_text();
-    law_legal_where_nothing_broken();
-    match report_of(alloc, &input) {
-        Ok(Report::Legal) => match put_all(out, b"legal\n") {
-            Ok(()) => Status::Ok,
-            Err(_) => Status::WriteFault,
-        },
-        Ok(Report::NotValid(line)) => match put_all(out, &line) {
-            Ok(()) => Status::NotValid,
-            Err(_) => Status::WriteFault,
-        },
-        Ok(Report::Refused(line)) => match put_all(out, &line) {
-            Ok(()) => Status::FileRefused,
-            Err(_) => Status::WriteFault,
-        },
-        Err(_) => Status::NoMemory,
-    }
+    judge_input(alloc, src, out)
 }

@@ -1,22 +1,27 @@
-ghost use Rattle.std.specs.Prelude.{◌≡◌, ◌≢◌, ◌≤◌, ◌⊎◌, IfOk, OnOk, true, false};
-ghost use Rattle.std.specs.Io.KnownBytes.{Appends, Keeps, IsAtEnd};
-ghost use Rattle.draw_ports.specs.Causes.{Rose, AppendsSome};
+//! What the program `draw` does: it follows a draw.
+
+ghost use Rattle.std.specs.Prelude.{◌≡◌, ◌⊎◌, ◌↔◌, IfOk, IsTrue};
+ghost use Rattle.draw_top.specs.declared.status.Status.{Status as StatusValue};
 ghost use Rattle.draw_top.specs.Outputs.{IsOutputOf};
-ghost use Rattle.draw_top.specs.Follow.{words_of, IsFollow, usage_line, GainsAnswer, GainsRefusal, GainsPart, FitsLimit, PassesLimit, HoldsFile, HoldsNoFile, TellsTooMuch};
+ghost use Rattle.draw_top.specs.Outside.{outside, NothingFailed};
+ghost use Rattle.draw_top.specs.Follow.{words_of, IsFollow, GainsAnswer};
+ghost use Rattle.draw_top.specs.Modes.{Mode, AsksFor, Draw, Follow};
+ghost use Rattle.draw_top.specs.Endings.{EndsAs, Ends, CallsFor};
 
 use crate::answering::answer_text;
-use crate::heads::{INPUT_LIMIT, file_of_head, refusal_line};
+use crate::endings::{finish, read_input};
+use crate::heads::{INPUT_LIMIT, refusal_line};
 use crate::status::Status;
 use draw_lines::split_input;
-use draw_ports::{PortFault, Sink, Source, put_all, read_all};
+use draw_ports::{Sink, Source};
+use rule_sets::read_file;
 use std::alloc::{AllocError, Global};
 
 const USAGE: &[u8] = b"usage: draw follow|prove|room|trial N [--workers 1..16]\n";
 
 /// Whether the words are the one form, `follow` alone.
 fn is_follow(words: &[String]) -> bool
-    ensures yes { result ≡ true → IsFollow (words_of words.now) }
-    ensures no { result ≡ false → IsFollow (words_of words.now) → ⊥ }
+    ensures { IsTrue result ↔ IsFollow (words_of words.now) }
 {
     match words {
         [word] => word.as_str() == "follow",
@@ -36,7 +41,7 @@ fn output_of(alloc: Global, input: &[u8]) -> Result<Output, AllocError>
     ensures { IfOk result (λ output. IsOutputOf input.now output) }
 {
     let (head, commands) = split_input(input);
-    match file_of_head(alloc, head) {
+    match read_file(alloc, head) {
         Ok(file) => {
             let text = answer_text(alloc, &file, commands)?;
             Ok(Output::Answer(text))
@@ -48,75 +53,64 @@ fn output_of(alloc: Global, input: &[u8]) -> Result<Output, AllocError>
     }
 }
 
+/// Reads an input to its end and writes its answer text, or the line of its head's first fault.
+/// The order of the causes is ReadFault, TooLong, FileRefused.
+fn follow_input<S: Source, K: Sink>(alloc: Global, src: &mut S, out: &mut K) -> Status
+    ensures ends { EndsAs Follow result
+        (outside (S.left src.old) (K.wrote out.old) (S.faults src.old) (K.faults out.old))
+        (outside (S.left src.new) (K.wrote out.new) (S.faults src.new) (K.faults out.new)) }
+    ensures complete { (status : StatusValue) → CallsFor Follow (S.left src.old) status
+        → NothingFailed
+        (outside (S.left src.old) (K.wrote out.old) (S.faults src.old) (K.faults out.old))
+        (outside (S.left src.new) (K.wrote out.new) (S.faults src.new) (K.faults out.new))
+        → (result ≡ status) ⊎ (result ≡ Status.NoMemory) }
+{
+    let input = match read_input(alloc, src, INPUT_LIMIT) {
+        Ok(input) => input,
+        Err(status) => return status,
+    };
+    match output_of(alloc, &input) {
+        Ok(Output::Answer(text)) => finish(out, &text, Status::Ok),
+        Ok(Output::Refusal(line)) => finish(out, &line, Status::FileRefused),
+        Err(_) => Status::NoMemory,
+    }
+}
+
 /// Reads an input to its end and writes its answer text, or the line of its head's first fault;
-/// where the words are not `follow` alone it writes the usage line and reads nothing. The order
-/// of the causes is Usage, ReadFault, TooLong, FileRefused.
+/// where the words are not `follow` alone it writes the usage line and reads nothing. It ends with
+///
+/// - `Ok` where the whole answer text was written;
+/// - `Usage` where the words are not `follow` alone, and the usage line was written;
+/// - `FileRefused` where the head has no draw file, and the line of its first fault was written;
+/// - `ReadFault` where the source failed, and nothing was written;
+/// - `WriteFault` where the sink failed, after some first bytes of what was to be written;
+/// - `NoMemory` where no memory was left, and nothing was written;
+/// - `TooLong` where the source held more than 4,194,304 bytes, and nothing was written.
+///
+/// The order of the causes is Usage, ReadFault, TooLong, FileRefused.
 pub fn follow<S: Source, K: Sink>(
     alloc: Global,
     words: &[String],
     src: &mut S,
     out: &mut K,
 ) -> Status
-    // The sink gained exactly the answer text of the source's bytes, and the source is at its end.
-    ensures ok { result ≡ Status.Ok → GainsAnswer (S.left src.old) (K.wrote out.old) (K.wrote out.new) }
-    ensures ok_end { result ≡ Status.Ok → IsAtEnd (S.left src.new) }
-    ensures ok_fits { result ≡ Status.Ok → FitsLimit (S.left src.old) }
-    // Usage exactly by the words.
-    ensures usage { result ≡ Status.Usage → IsFollow (words_of words.now) → ⊥ }
-    ensures usage_line { result ≡ Status.Usage → Appends (K.wrote out.old) (K.wrote out.new) usage_line }
-    ensures usage_reads_nothing { (IsFollow (words_of words.now) → ⊥) → (S.left src.new ≡ S.left src.old) × (S.faults src.new ≡ S.faults src.old) }
-    ensures no_form { (IsFollow (words_of words.now) → ⊥) → (result ≡ Status.Usage) ⊎ (result ≡ Status.WriteFault) }
-    // A head without a file, whose source was read to its end.
-    ensures refused { result ≡ Status.FileRefused → GainsRefusal (S.left src.old) (K.wrote out.old) (K.wrote out.new) }
-    ensures refused_end { result ≡ Status.FileRefused → IsAtEnd (S.left src.new) }
-    ensures refused_fits { result ≡ Status.FileRefused → FitsLimit (S.left src.old) }
-    // A fault only where that object's count rose in this call; after a failed `put` or `take` no other status.
-    ensures read { result ≡ Status.ReadFault → Rose (S.faults src.old) (S.faults src.new) }
-    ensures source_quiet { result ≢ Status.ReadFault → S.faults src.new ≡ S.faults src.old }
-    ensures sink_quiet { result ≢ Status.WriteFault → K.faults out.new ≡ K.faults out.old }
-    ensures read_none { result ≡ Status.ReadFault → Keeps (K.wrote out.old) (K.wrote out.new) }
-    ensures write { result ≡ Status.WriteFault → Rose (K.faults out.old) (K.faults out.new) }
-    ensures write_part { result ≡ Status.WriteFault → IsFollow (words_of words.now) → GainsPart (S.left src.old) (K.wrote out.old) (K.wrote out.new) }
-    ensures write_end { result ≡ Status.WriteFault → IsFollow (words_of words.now) → IsAtEnd (S.left src.new) }
-    ensures write_usage { result ≡ Status.WriteFault → (IsFollow (words_of words.now) → ⊥) → AppendsSome (K.wrote out.old) (K.wrote out.new) usage_line }
-    // Too long exactly by the number of bytes, where no read failed.
-    ensures too_long { result ≡ Status.TooLong → PassesLimit (S.left src.old) }
-    ensures too_long_none { result ≡ Status.TooLong → Keeps (K.wrote out.old) (K.wrote out.new) }
-    ensures no_memory_none { result ≡ Status.NoMemory → Keeps (K.wrote out.old) (K.wrote out.new) }
-    // What is judged is `run_check`'s alone.
-    ensures never_judged { result ≢ Status.NotValid }
+    // The promise: the sink gained exactly the answer text of the source's bytes.
+    ensures headline { AsksFor Draw (words_of words.now) Follow → result ≡ Status.Ok
+        → GainsAnswer (S.left src.old) (K.wrote out.old) (K.wrote out.new) }
+    // Each status and its cause.
+    ensures ends { Ends Draw result (words_of words.now)
+        (outside (S.left src.old) (K.wrote out.old) (S.faults src.old) (K.faults out.old))
+        (outside (S.left src.new) (K.wrote out.new) (S.faults src.new) (K.faults out.new)) }
     // The right words and no fault: by the bytes alone, or no memory.
-    ensures complete { IsFollow (words_of words.now) → HoldsFile (S.left src.old)
-        → (Rose (S.faults src.old) (S.faults src.new) → ⊥) → (Rose (K.faults out.old) (K.faults out.new) → ⊥)
-        → (result ≡ Status.Ok) ⊎ (result ≡ Status.NoMemory) }
-    ensures complete_refused { IsFollow (words_of words.now) → HoldsNoFile (S.left src.old)
-        → (Rose (S.faults src.old) (S.faults src.new) → ⊥) → (Rose (K.faults out.old) (K.faults out.new) → ⊥)
-        → (result ≡ Status.FileRefused) ⊎ (result ≡ Status.NoMemory) }
-    ensures complete_too_long { IsFollow (words_of words.now) → TellsTooMuch (S.left src.old)
-        → (Rose (S.faults src.old) (S.faults src.new) → ⊥) → (Rose (K.faults out.old) (K.faults out.new) → ⊥)
-        → (result ≡ Status.TooLong) ⊎ (result ≡ Status.NoMemory) }
+    ensures complete { (mode : Mode) (status : StatusValue)
+        → AsksFor Draw (words_of words.now) mode → CallsFor mode (S.left src.old) status
+        → NothingFailed
+        (outside (S.left src.old) (K.wrote out.old) (S.faults src.old) (K.faults out.old))
+        (outside (S.left src.new) (K.wrote out.new) (S.faults src.new) (K.faults out.new))
+        → (result ≡ status) ⊎ (result ≡ Status.NoMemory) }
 {
     if !is_follow(words) {
-        return match put_all(out, USAGE) {
-            Ok(()) => Status::Usage,
-            Err(_) => Status::WriteFault,
-        };
+        return finish(out, USAGE, Status::Usage);
     }
-    let input = match read_all(alloc, src, INPUT_LIMIT) {
-        Ok(input) => input,
-        Err(PortFault::Read) => return Status::ReadFault,
-        Err(PortFault::TooLong { limit: _ }) => return Status::TooLong,
-        Err(_) => return Status::NoMemory,
-    };
-    match output_of(alloc, &input) {
-        Ok(Output::Answer(text)) => match put_all(out, &text) {
-            Ok(()) => Status::Ok,
-            Err(_) => Status::WriteFault,
-        },
-        Ok(Output::Refusal(line)) => match put_all(out, &line) {
-            Ok(()) => Status::FileRefused,
-            Err(_) => Status::WriteFault,
-        },
-        Err(_) => Status::NoMemory,
-    }
+    follow_input(alloc, src, out)
 }

@@ -9,6 +9,7 @@ mod check_tests;
 mod checking;
 #[cfg(test)]
 mod count_tests;
+mod endings;
 mod faults;
 mod following;
 mod heads;

@@ -1,7 +1,9 @@
-ghost use Rattle.std.specs.Prelude.{◌≡◌, ◌≢◌, ◌⊎◌};
-ghost use Rattle.std.specs.Io.KnownBytes.{Appends, Keeps, IsAtEnd};
-ghost use Rattle.draw_ports.specs.Causes.{Rose, AppendsSome};
-ghost use Rattle.draw_top.specs.Follow.{words_of, IsFollow, usage_line, GainsAnswer, GainsRefusal, GainsPart, FitsLimit, PassesLimit, HoldsFile, HoldsNoFile, TellsTooMuch};
+ghost use Rattle.std.specs.Prelude.{◌≡◌, ◌⊎◌};
+ghost use Rattle.draw_top.specs.declared.status.Status.{Status as StatusValue};
+ghost use Rattle.draw_top.specs.Outside.{outside, NothingFailed};
+ghost use Rattle.draw_top.specs.Follow.{words_of, GainsAnswer};
+ghost use Rattle.draw_top.specs.Modes.{Mode, AsksFor, Draw, Follow};
+ghost use Rattle.draw_top.specs.Endings.{Ends, CallsFor};
 
 use crate::following::follow;
 use crate::status::Status;
@@ -21,44 +23,20 @@ pub fn run_draw<R: Threads + Wait + Sync, S: Source, K: Sink, G: Gate + Sync>(
     out: &mut K,
     gate: &G,
 ) -> Status
-    // The sink gained exactly the answer text of the source's bytes, and the source is at its end.
-    ensures ok { result ≡ Status.Ok → GainsAnswer (S.left src.old) (K.wrote out.old) (K.wrote out.new) }
-    ensures ok_end { result ≡ Status.Ok → IsAtEnd (S.left src.new) }
-    ensures ok_fits { result ≡ Status.Ok → FitsLimit (S.left src.old) }
-    // Usage exactly by the words.
-    ensures usage { result ≡ Status.Usage → IsFollow (words_of words.now) → ⊥ }
-    ensures usage_line { result ≡ Status.Usage → Appends (K.wrote out.old) (K.wrote out.new) usage_line }
-    ensures usage_reads_nothing { (IsFollow (words_of words.now) → ⊥) → (S.left src.new ≡ S.left src.old) × (S.faults src.new ≡ S.faults src.old) }
-    ensures no_form { (IsFollow (words_of words.now) → ⊥) → (result ≡ Status.Usage) ⊎ (result ≡ Status.WriteFault) }
-    // A head without a file, whose source was read to its end.
-    ensures refused { result ≡ Status.FileRefused → GainsRefusal (S.left src.old) (K.wrote out.old) (K.wrote out.new) }
-    ensures refused_end { result ≡ Status.FileRefused → IsAtEnd (S.left src.new) }
-    ensures refused_fits { result ≡ Status.FileRefused → FitsLimit (S.left src.old) }
-    // A fault only where that object's count rose in this call; after a failed `put` or `take` no other status.
-    ensures read { result ≡ Status.ReadFault → Rose (S.faults src.old) (S.faults src.new) }
-    ensures source_quiet { result ≢ Status.ReadFault → S.faults src.new ≡ S.faults src.old }
-    ensures sink_quiet { result ≢ Status.WriteFault → K.faults out.new ≡ K.faults out.old }
-    ensures read_none { result ≡ Status.ReadFault → Keeps (K.wrote out.old) (K.wrote out.new) }
-    ensures write { result ≡ Status.WriteFault → Rose (K.faults out.old) (K.faults out.new) }
-    ensures write_part { result ≡ Status.WriteFault → IsFollow (words_of words.now) → GainsPart (S.left src.old) (K.wrote out.old) (K.wrote out.new) }
-    ensures write_end { result ≡ Status.WriteFault → IsFollow (words_of words.now) → IsAtEnd (S.left src.new) }
-    ensures write_usage { result ≡ Status.WriteFault → (IsFollow (words_of words.now) → ⊥) → AppendsSome (K.wrote out.old) (K.wrote out.new) usage_line }
-    // Too long exactly by the number of bytes, where no read failed.
-    ensures too_long { result ≡ Status.TooLong → PassesLimit (S.left src.old) }
-    ensures too_long_none { result ≡ Status.TooLong → Keeps (K.wrote out.old) (K.wrote out.new) }
-    ensures no_memory_none { result ≡ Status.NoMemory → Keeps (K.wrote out.old) (K.wrote out.new) }
-    // What is judged is `run_check`'s alone.
-    ensures never_judged { result ≢ Status.NotValid }
+    // The promise: the sink gained exactly the answer text of the source's bytes.
+    ensures headline { AsksFor Draw (words_of words.now) Follow → result ≡ Status.Ok
+        → GainsAnswer (S.left src.old) (K.wrote out.old) (K.wrote out.new) }
+    // Each status and its cause.
+    ensures ends { Ends Draw result (words_of words.now)
+        (outside (S.left src.old) (K.wrote out.old) (S.faults src.old) (K.faults out.old))
+        (outside (S.left src.new) (K.wrote out.new) (S.faults src.new) (K.faults out.new)) }
     // The right words and no fault: by the bytes alone, or no memory.
-    ensures complete { IsFollow (words_of words.now) → HoldsFile (S.left src.old)
-        → (Rose (S.faults src.old) (S.faults src.new) → ⊥) → (Rose (K.faults out.old) (K.faults out.new) → ⊥)
-        → (result ≡ Status.Ok) ⊎ (result ≡ Status.NoMemory) }
-    ensures complete_refused { IsFollow (words_of words.now) → HoldsNoFile (S.left src.old)
-        → (Rose (S.faults src.old) (S.faults src.new) → ⊥) → (Rose (K.faults out.old) (K.faults out.new) → ⊥)
-        → (result ≡ Status.FileRefused) ⊎ (result ≡ Status.NoMemory) }
-    ensures complete_too_long { IsFollow (words_of words.now) → TellsTooMuch (S.left src.old)
-        → (Rose (S.faults src.old) (S.faults src.new) → ⊥) → (Rose (K.faults out.old) (K.faults out.new) → ⊥)
-        → (result ≡ Status.TooLong) ⊎ (result ≡ Status.NoMemory) }
+    ensures complete { (mode : Mode) (status : StatusValue)
+        → AsksFor Draw (words_of words.now) mode → CallsFor mode (S.left src.old) status
+        → NothingFailed
+        (outside (S.left src.old) (K.wrote out.old) (S.faults src.old) (K.faults out.old))
+        (outside (S.left src.new) (K.wrote out.new) (S.faults src.new) (K.faults out.new))
+        → (result ≡ status) ⊎ (result ≡ Status.NoMemory) }
 {
     let _ = rt;
     let _ = gate;
