@@ -27,7 +27,7 @@ one_answer_of file lines t u h g =
     ∙ ap (λ xs. opening_text file g.0 ++ replies_text file xs) run
     ∙ sym g.2.whole
 
-one_file : (bytes : List ℕ) (f g : DrawFile) → IsFileOf bytes f → IsFileOf bytes g → f ≡ g
+pub one_file : (bytes : List ℕ) (f g : DrawFile) → IsFileOf bytes f → IsFileOf bytes g → f ≡ g
 one_file bytes f g h k =
     let same : h.0 ≡ k.0 = both _ read_head h.1.0 k.1.0 h.0 k.0 h.1.1.value k.1.1.value h.1.2 k.1.2 in
     let P : Head → Type 0 = λ x. file_of x ≡ Ok f in

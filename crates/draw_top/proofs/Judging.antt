@@ -12,7 +12,7 @@ use Rattle.draw_top.specs.Check.{AreTableLine, AreLegal, TellsBroken, TellsNoTab
 use Rattle.draw_top.specs.Modes.{Judge, limit_of}
 use Rattle.draw_top.specs.Endings.{IsDecided}
 use Rattle.draw_top.proofs.Gains.{not_refused}
-use Rattle.draw_top.proofs.Function.{files_once}
+use Rattle.draw_top.proofs.Function.{one_file}
 
 formed : (bytes : List ℕ) (file : DrawFile) → IsFileOf bytes file → IsWellFormed file
 formed bytes file h = (h.0, (h.1.0, h.1.2), h.2)
@@ -38,7 +38,7 @@ module _ (one : OneTableOfText) (none : NoneBrokenWhereLegal) where
   -- An input with a legal table is not objected to.
   pub not_both : (input text : List ℕ) → IsLegalInput input → IsObjectionTo input text → ⊥
   not_both input text h g =
-      let same : h.0 ≡ g.0 = files_once (head_of input) h.0 g.0 h.1 g.1 in
+      let same : h.0 ≡ g.0 = one_file (head_of input) h.0 g.0 h.1 g.1 in
       let P : DrawFile → Type 0 = λ file. AreLegal file (command_lines input) in
       against g.0 (command_lines input) text (formed (head_of input) g.0 g.1) (subst P same h.2) g.2
 

@@ -3,7 +3,7 @@ ghost use Rattle.std.specs.Prelude.{◌<◌};
 use crate::laws::{law_answer_exists, law_answer_or_refusal, law_one_answer};
 use crate::run::run_draw;
 use crate::status::Status;
-use draw_lines::law_pieces_are_lines;
+use draw_lines::{law_head_before_separator, law_lines_lose_their_ends, law_pieces_are_lines};
 use draw_ports::{MemorySink, MemorySource, OpenGate};
 use draw_state::{
     law_offered_is_accepted, law_one_outcome, law_one_run, law_replies_name_teams, law_states_stay,
@@ -478,6 +478,8 @@ fn the_laws_return(rt: HostRuntime) {
     law_files_have_form();
     law_files_have_pairs();
     law_pieces_are_lines();
+    law_lines_lose_their_ends();
+    law_head_before_separator();
     law_one_answer();
     law_answer_exists();
     law_answer_or_refusal();
