@@ -391,6 +391,8 @@ fn a_head_is_read(rt: HostRuntime) -> Result<(), Fail> {
     expect_found(&rt, head.teams(), "AAA", Some(TeamId(0)));
     expect_found(&rt, head.teams(), "BBB", Some(TeamId(1)));
     expect_found(&rt, head.teams(), "CCC", None);
+    let teams = head.into_teams();
+    expect_found(&rt, &teams, "BBB", Some(TeamId(1)));
     Ok(())
 }
 
