@@ -11,7 +11,7 @@ use Rattle.draw_state.specs.declared.commands.Word.{Word}
 use Rattle.draw_state.specs.declared.commands.Command.{Command}
 use Rattle.draw_state.specs.declared.commands.Action.{Action}
 use Rattle.draw_state.specs.declared.replies.Refusal.{Refusal}
-use Rattle.draw_state.specs.Commands.{choice_of, IsBallOf, AsksFor, most_commands, Refuses, IsFirst, IsRefusedCommand, IsAcceptedCommand}
+use Rattle.draw_state.specs.Commands.{choice_of, IsBallOf, IsActionOf, most_commands, Refuses, IsFirst, IsRefusedCommand, IsAcceptedCommand}
 
 -- what is first has the property
 pub first_holds : {A : Type 0} (P : A → Type 0) (xs : List A) (x : A) → IsFirst P xs x → P x
@@ -103,5 +103,5 @@ one_choice file command c d h g =
     let e = h.2 in
     cc
 
-pub one_action : (file : DrawFile) (command : Command) (a b : Action) → AsksFor file command a → AsksFor file command b → a ≡ b
+pub one_action : (file : DrawFile) (command : Command) (a b : Action) → IsActionOf file command a → IsActionOf file command b → a ≡ b
 one_action file command (Action.Ball c) (Action.Ball d) h g = ap (λ x. Action.Ball x) (one_choice file command c d h g)

@@ -29,9 +29,9 @@ choice_of file (Word.Number n) = choice_of_number file.kind file n
 abbrev pub IsBallOf : DrawFile → Command → Choice → Type 0
 IsBallOf file command c = (word : Word) × (command ≡ Command.Ball word) × (choice_of file word ≡ Some c)
 
--- the command asks for this action
-abbrev pub AsksFor : DrawFile → Command → Action → Type 0
-AsksFor file command (Action.Ball c) = IsBallOf file command c
+-- the command asks for the action
+abbrev pub IsActionOf : DrawFile → Command → Action → Type 0
+IsActionOf file command (Action.Ball c) = IsBallOf file command c
 
 -- ---- the refusals, each a fact by itself
 
@@ -96,7 +96,7 @@ IsRefusedCommand file ms answered command refusal = IsFirst (Refuses file ms ans
 
 -- The command is accepted: it asks for this action, and no cause refuses it.
 pub record IsAcceptedCommand (file : DrawFile) (ms : List Move) (answered : ℕ) (command : Command) (action : Action) : Type 0 where
-  pub asks : AsksFor file command action
+  pub asks : IsActionOf file command action
   pub nothing_refuses : (refusal : Refusal) → ¬ Refuses file ms answered command refusal
 
 -- What is said of a command: it is accepted with an action, or refused for a cause.
