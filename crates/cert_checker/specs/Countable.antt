@@ -1,9 +1,17 @@
 -- Lists of steps that a u32 numbers.
-use Rattle.std.specs.Prelude.{◌<◌, ◌^◌, List, length}
+use Rattle.std.specs.Prelude.{ℕ, ◌<◌, ◌^◌, List, length}
 use Rattle.std.specs.List.{AllByRecursion}
 use Rattle.count_core.specs.declared.step.Step.{Step}
 
--- Fewer than 2^32 steps, and in each fewer than 2^32 hints.
+-- how many numbers a u32 has
+abbrev pub numbers : ℕ
+numbers = 2 ^ 32
+
+-- A u32 numbers the hints of the step.
+abbrev pub HasCountableHints : Step → Type 0
+HasCountableHints s = length s.hints < numbers
+
+-- A u32 numbers the steps, and the hints of each.
 pub record AreCountable (steps : List Step) : Type 0 where
-  pub few : length steps < 2 ^ 32
-  pub hints : AllByRecursion (λ (s : Step). length s.hints < 2 ^ 32) steps
+  pub few : length steps < numbers
+  pub hints : AllByRecursion HasCountableHints steps

@@ -4,7 +4,7 @@ pub enum Checked {
     /// Each step is accepted after those before it.
     Accepted,
     /// The first step that is not accepted, by its number from 0, and its failing hint, from 0: the
-    /// first faulty hint; the number of hints where none is faulty and the last only forces; 0 where
-    /// there is no hint, or the clause has an atom out of range or one atom twice.
+    /// first faulty hint; the number of hints where none is faulty and the last only forces; 0
+    /// where there is no hint, or the clause has an atom out of range or one atom twice.
     Bad { step: u32, hint: u32 },
 }

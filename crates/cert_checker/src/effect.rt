@@ -1,28 +1,25 @@
-ghost use Rattle.std.specs.Prelude.{◌≡◌, ◌≤◌, ◌+◌, Bool, true, false, length};
-ghost use Rattle.count_core.specs.Partials.{is_true, is_false, trues, falses, conflicts, forces, forced, settle_all};
+ghost use Rattle.std.specs.Prelude.{◌≡◌, ◌≤◌, ◌+◌, Bool, true, length};
+ghost use Rattle.count_core.specs.PartialAssignments.{is_true, is_false, trues, falses, conflicts, ForcesAll, IsQuiet};
 
 use count_core::Lit;
 
-/// What a rule says under some values.
+/// What a rule says under a partial assignment.
 #[derive(Clone, Copy, Debug, PartialEq, Eq)]
 pub(crate) enum Effect {
     /// It conflicts.
     Conflict,
-    /// It does not, and forces its unset literals to be this; there is at least one.
+    /// It does not conflict, and forces its unset literals to be this; there is at least one.
     Forces { truth: bool },
     /// Neither.
-    Nothing,
+    Quiet,
 }
 
-/// What the rule that from `lo` to `hi` of the literals are true says under the values. Looks at each
-/// literal once.
+/// What a rule says under the values: that from `lo` to `hi` of the literals are true. Looks at
+/// each literal once.
 pub(crate) fn effect_of(values: &[Option<bool>], lits: &[Lit], lo: usize, hi: usize) -> Effect
     ensures conflict { result ≡ Effect.Conflict → conflicts values.now lits.now lo hi ≡ true }
-    ensures quiet { (truth : Bool) → result ≡ Effect.Forces truth → conflicts values.now lits.now lo hi ≡ false }
-    ensures forces { (truth : Bool) → result ≡ Effect.Forces truth → forces values.now lits.now lo hi ≡ true }
-    ensures forced { (truth : Bool) → result ≡ Effect.Forces truth → forced values.now lits.now lo hi ≡ settle_all truth lits.now values.now }
-    ensures calm { result ≡ Effect.Nothing → conflicts values.now lits.now lo hi ≡ false }
-    ensures idle { result ≡ Effect.Nothing → forces values.now lits.now lo hi ≡ false }
+    ensures forces { (b : Bool) → result ≡ Effect.Forces b → ForcesAll values.now lits.now lo hi b }
+    ensures quiet { result ≡ Effect.Quiet → IsQuiet values.now lits.now lo hi }
 {
     let tally = tally_of(values, lits);
     let able = lits.len() - tally.falses;
@@ -33,7 +30,7 @@ pub(crate) fn effect_of(values: &[Option<bool>], lits: &[Lit], lo: usize, hi: us
         return Effect::Conflict;
     }
     if tally.trues == able {
-        return Effect::Nothing;
+        return Effect::Quiet;
     }
     if tally.trues == hi {
         return Effect::Forces { truth: false };
@@ -41,7 +38,7 @@ pub(crate) fn effect_of(values: &[Option<bool>], lits: &[Lit], lo: usize, hi: us
     if able == lo {
         return Effect::Forces { truth: true };
     }
-    Effect::Nothing
+    Effect::Quiet
 }
 
 /// How many of some literals are true, and how many false.

@@ -7,7 +7,7 @@ use Rattle.std.proofs.lemmas.List.{get_or-take}
 use Rattle.count_core.specs.declared.lit.Lit.{Lit}
 use Rattle.count_core.specs.declared.count_rule.CountRule.{CountRule}
 use Rattle.count_core.specs.Problems.{Problem}
-use Rattle.count_core.specs.Assignments.{signed, makes_true, true_number, SatisfiesRule, Satisfies, SatisfiesQuestion}
+use Rattle.count_core.specs.Assignments.{under_sign, makes_true, true_number, SatisfiesRule, Satisfies, SatisfiesQuestion}
 use Rattle.count_core.specs.Decisions.{Decided, IsSatisfiable, SatisfiabilityDecides}
 use Rattle.count_core.proofs.Lists.{count_cons}
 
@@ -74,7 +74,7 @@ past_rules (r ∷ rs) = past r.lits + past_rules rs
 module _ (n : ℕ) (values : List Bool) where
   -- whether a literal is true
   kept_literal : (l : Lit) → l.atom.0 < n → makes_true (take n values) l ≡ makes_true values l
-  kept_literal l lt = ap (signed l.positive) (get_or-take n values l.atom.0 false lt)
+  kept_literal l lt = ap (under_sign l.positive) (get_or-take n values l.atom.0 false lt)
 
   -- how many literals are true
   kept_number : (ls : List Lit) → past ls ≤ n → true_number (take n values) ls ≡ true_number values ls

@@ -1,13 +1,18 @@
--- Tests and facts over lists.
-use Rattle.std.proofs.Common.{◌≡◌, ℕ, zero, suc, ◌+◌, ◌≤◌, Bool, true, false, cond, List, [], ◌∷◌, ◌++◌, length, ◌⊎◌, inl, inr, refl, arith, Some, slice_get, subst}
+-- Tests, facts of each element, counts, and a list written back.
+use Rattle.std.proofs.Common.{◌≡◌, ℕ, zero, suc, ◌+◌, ◌≤◌, Bool, true, false, cond, List, [], ◌∷◌, ◌++◌, length, take, drop, ◌⊎◌, inl, inr, refl, arith, Some, slice_get, subst}
 use Rattle.std.specs.Prelude.{count_by, ◌||◌, ◌&&◌}
 use Rattle.std.specs.List.{AllByRecursion as Each, list_any}
+use Rattle.std.proofs.lemmas.Grind.{common_steps}
 use Rattle.std.proofs.lemmas.List.Sums.{sum_by-cons}
 
+-- ---- tests
+
+-- two tests that both pass
 pub both_true : (a b : Bool) → (a && b) ≡ true → (a ≡ true) × (b ≡ true)
 both_true true b e = (refl, e)
 both_true false b e = cc
 
+-- tests by `or` in another order
 pub regroup : (m e a r : Bool) → (m || ((e || a) || r)) ≡ ((m || a) || (e || r))
 regroup true e a r = refl
 regroup false true true r = refl
@@ -22,24 +27,31 @@ shuffle false true false d = refl
 shuffle false false true d = refl
 shuffle false false false d = refl
 
+-- ---- facts of each element
+
 module _ {X : Type 0} where
+  -- a fact that gives another
   pub each_map : (P Q : X → Type 0) (xs : List X) → ((x : X) → P x → Q x) → Each P xs → Each Q xs
   each_map P Q [] f h = tt
   each_map P Q (x ∷ xs) f h = (f x h.0, each_map P Q xs f h.1)
 
+  -- the fact of the element at a place
   pub each_at : (P : X → Type 0) (xs : List X) (n : ℕ) (y : X) → Each P xs → slice_get xs n ≡ Some y → P y
   each_at P [] n y h e = cc
   each_at P (x ∷ xs) zero y h e = let same : x ≡ y = cc in subst P same h.0
   each_at P (x ∷ xs) (suc n) y h e = each_at P xs n y h.1 e
 
+  -- one element more
   pub each_push : (P : X → Type 0) (xs : List X) (y : X) → Each P xs → P y → Each P (xs ++ y ∷ [])
   each_push P [] y h e = (e, tt)
   each_push P (x ∷ xs) y h e = (h.0, each_push P xs y h.1 e)
 
+  -- two tests that answer alike
   pub any_same : (p q : X → Bool) → ((x : X) → p x ≡ q x) → (xs : List X) → list_any p xs ≡ list_any q xs
   any_same p q e [] = refl
   any_same p q e (x ∷ xs) = rw (e x, any_same p q e xs)
 
+  -- a test that is one or another
   pub any_or : (p q : X → Bool) (xs : List X) → list_any (λ x. p x || q x) xs ≡ (list_any p xs || list_any q xs)
   any_or p q [] = refl
   any_or p q (x ∷ xs) = rw (any_or p q xs) (shuffle (p x) (q x) (list_any p xs) (list_any q xs))
@@ -65,6 +77,7 @@ bits_cover true b le = inl refl
 bits_cover false true le = inr refl
 bits_cover false false le = absurd (omega arith)
 
+-- the first element counts, where it passes
 pub count_cons : {X : Type 0} (p : X → Bool) (x : X) (xs : List X) → count_by p (x ∷ xs) ≡ cond (p x) 1 0 + count_by p xs
 count_cons p x xs = sum_by-cons (λ x. cond (p x) 1 0) x xs
 
@@ -99,6 +112,7 @@ module _ {X : Type 0} (p q : X → Bool) where
       let cq = count_cons q x xs in
       (bits_cover (p x) (q x) (omega arith), count_cover xs h (omega arith))
 
+-- where some element passes, there is at least one
 pub any_counts : {X : Type 0} (p : X → Bool) (xs : List X) → list_any p xs ≡ true → 1 ≤ count_by p xs
 any_counts p [] e = cc
 any_counts p (x ∷ xs) e = rw count_cons (go (p x) (any_counts p xs) e)
@@ -107,6 +121,7 @@ any_counts p (x ∷ xs) e = rw count_cons (go (p x) (any_counts p xs) e)
     go true rest e = omega arith
     go false rest e = omega (arith, rest e)
 
+-- where none passes, each fails
 pub none_pass : {X : Type 0} (p : X → Bool) (xs : List X) → list_any p xs ≡ false → Each (λ x. p x ≡ false) xs
 none_pass p [] e = tt
 none_pass p (x ∷ xs) e = go (p x) refl e (none_pass p xs)
@@ -114,3 +129,9 @@ none_pass p (x ∷ xs) e = go (p x) refl e (none_pass p xs)
     go : (b : Bool) → p x ≡ b → (b || list_any p xs) ≡ false → (list_any p xs ≡ false → Each (λ x. p x ≡ false) xs) → (p x ≡ false) × Each (λ x. p x ≡ false) xs
     go true is e rest = cc
     go false is e rest = (is, rest e)
+
+-- ---- a list written back
+
+-- a whole list written over one as long
+pub written_back : {X : Type 0} (n : ℕ) (new old : List X) → length new ≡ n → length old ≡ n → take n (new ++ drop (length new) old) ≡ new
+written_back n new old e f = grind (arith, common_steps)

@@ -1,5 +1,5 @@
 -- Accepted lists taken apart, put together and renumbered.
-use Rattle.std.proofs.Common.{◌≡◌, ℕ, zero, suc, ◌+◌, ◌-◌, Bool, true, false, cond, List, [], ◌∷◌, ◌++◌, length, take, drop, add-one, refl, sym, ap, ◌∙◌, Option, Some, None, arith, slice_get, subst}
+use Rattle.std.proofs.Common.{◌≡◌, ℕ, zero, suc, ◌+◌, ◌-◌, Bool, true, false, cond, List, [], ◌∷◌, ◌++◌, append-nil, append_assoc, length, take, drop, add-one, refl, sym, ap, ◌∙◌, Option, Some, None, arith, slice_get, subst}
 use Rattle.std.specs.Prelude.{option_map, map}
 use Rattle.std.specs.List.{AllByRecursion as Each}
 use Rattle.std.proofs.lemmas.List.{take-append-drop}
@@ -8,8 +8,8 @@ use Rattle.count_core.specs.declared.hint.Hint.{Hint}
 use Rattle.count_core.specs.declared.hint.Hint.TheVariants.{Rule, Step as Earlier}
 use Rattle.count_core.specs.declared.step.Step.{Step}
 use Rattle.count_core.specs.Problems.{Problem}
-use Rattle.count_core.specs.Partials.{Partial, conflicts, forces, forced}
-use Rattle.count_core.specs.Steps.{clause_rule, rule_at, is_last, apply_hint, failing_from, denied, is_clause, IsAccepted, AreAcceptedAfter, AreAccepted, HasLast}
+use Rattle.count_core.specs.PartialAssignments.{PartialAssignment, conflicts, forces, forced_assignment}
+use Rattle.count_core.specs.Steps.{clause_rule, rule_at, is_last, apply_hint, failing_from, assumed_negation, is_clause, IsAccepted, AreAcceptedAfter, AreAccepted, HasLast}
 
 -- the hints name, one by one, rules that the others name too
 abbrev pub NameTheSame : (Hint → Option CountRule) → (Hint → Option CountRule) → List Hint → List Hint → Type 0
@@ -24,18 +24,18 @@ same_last find other [] (g ∷ gs) h = absurd h
 same_last find other (x ∷ hs) [] h = absurd h
 same_last find other (x ∷ hs) (g ∷ gs) h = refl
 
-hint_moved : (p : Partial) (o q : Option CountRule) → ((r : CountRule) → o ≡ Some r → q ≡ Some r) → (last : Bool) (i : ℕ) (go on : Partial → Option ℕ) → ((a : Partial) → go a ≡ None → on a ≡ None) → apply_hint p o last i go ≡ None → apply_hint p q last i on ≡ None
+hint_moved : (p : PartialAssignment) (o q : Option CountRule) → ((r : CountRule) → o ≡ Some r → q ≡ Some r) → (last : Bool) (i : ℕ) (go on : PartialAssignment → Option ℕ) → ((a : PartialAssignment) → go a ≡ None → on a ≡ None) → apply_hint p o last i go ≡ None → apply_hint p q last i on ≡ None
 hint_moved p None q same last i go on rest e = cc
 hint_moved p (Some r) q same last i go on rest e =
-    rw (same r refl) (by_case (conflicts p r.lits r.lo r.hi) (forces p r.lits r.lo r.hi) (rest (forced p r.lits r.lo r.hi)) e)
+    rw (same r refl) (by_case (conflicts p r.lits r.lo r.hi) (forces p r.lits r.lo r.hi) (rest (forced_assignment p r.lits r.lo r.hi)) e)
   where
-    by_case : (c f : Bool) → (go (forced p r.lits r.lo r.hi) ≡ None → on (forced p r.lits r.lo r.hi) ≡ None) → cond c (cond last None (Some i)) (cond f (go (forced p r.lits r.lo r.hi)) (Some i)) ≡ None → cond c (cond last None (Some i)) (cond f (on (forced p r.lits r.lo r.hi)) (Some i)) ≡ None
+    by_case : (c f : Bool) → (go (forced_assignment p r.lits r.lo r.hi) ≡ None → on (forced_assignment p r.lits r.lo r.hi) ≡ None) → cond c (cond last None (Some i)) (cond f (go (forced_assignment p r.lits r.lo r.hi)) (Some i)) ≡ None → cond c (cond last None (Some i)) (cond f (on (forced_assignment p r.lits r.lo r.hi)) (Some i)) ≡ None
     by_case true f rest e = e
     by_case false true rest e = rest e
     by_case false false rest e = e
 
 -- that no hint fails depends only on the rules that the hints name
-pub failing_moved : (find other : Hint → Option CountRule) (hs gs : List Hint) → NameTheSame find other hs gs → (p : Partial) (i : ℕ) → failing_from find p hs i ≡ None → failing_from other p gs i ≡ None
+pub failing_moved : (find other : Hint → Option CountRule) (hs gs : List Hint) → NameTheSame find other hs gs → (p : PartialAssignment) (i : ℕ) → failing_from find p hs i ≡ None → failing_from other p gs i ≡ None
 failing_moved find other [] [] h p i e = e
 failing_moved find other [] (g ∷ gs) h p i e = absurd h
 failing_moved find other (x ∷ hs) [] h p i e = absurd h
@@ -47,8 +47,8 @@ failing_moved find other (x ∷ hs) (g ∷ gs) h p i e =
 pub accepted_moved : (problem : Problem) (earlier others : List Step) (s : Step) (gs : List Hint) → NameTheSame (rule_at problem earlier) (rule_at problem others) s.hints gs → IsAccepted problem earlier s → IsAccepted problem others (record { clause = s.clause; hints = gs })
 accepted_moved problem earlier others s gs same e = go (is_clause problem s.clause) e
   where
-    go : (c : Bool) → cond c (failing_from (rule_at problem earlier) (denied problem.atoms s.clause) s.hints 0) (Some 0) ≡ None → cond c (failing_from (rule_at problem others) (denied problem.atoms s.clause) gs 0) (Some 0) ≡ None
-    go true e = failing_moved (rule_at problem earlier) (rule_at problem others) s.hints gs same (denied problem.atoms s.clause) 0 e
+    go : (c : Bool) → cond c (failing_from (rule_at problem earlier) (assumed_negation problem.atoms s.clause) s.hints 0) (Some 0) ≡ None → cond c (failing_from (rule_at problem others) (assumed_negation problem.atoms s.clause) gs 0) (Some 0) ≡ None
+    go true e = failing_moved (rule_at problem earlier) (rule_at problem others) s.hints gs same (assumed_negation problem.atoms s.clause) 0 e
     go false e = cc
 
 -- hints renumbered by a function that keeps what they name
@@ -89,26 +89,22 @@ accepted_later problem earlier more s e = accepted_moved problem earlier (earlie
 
 -- ---- lists
 
-append_nil : {X : Type 0} (xs : List X) → xs ++ [] ≡ xs
-append_nil [] = refl
-append_nil (x ∷ xs) = ap (λ ys. x ∷ ys) (append_nil xs)
-
 append_next : {X : Type 0} (xs : List X) (y : X) (ys : List X) → xs ++ y ∷ ys ≡ (xs ++ y ∷ []) ++ ys
-append_next [] y ys = refl
-append_next (x ∷ xs) y ys = ap (λ zs. x ∷ zs) (append_next xs y ys)
+append_next xs y ys = sym (append_assoc xs (y ∷ []) ys)
 
 -- accepted steps after accepted ones
 pub append_after : (problem : Problem) (earlier one two : List Step) → AreAcceptedAfter problem earlier one → AreAcceptedAfter problem (earlier ++ one) two → AreAcceptedAfter problem earlier (one ++ two)
-append_after problem earlier [] two h g = subst (λ e. AreAcceptedAfter problem e two) (append_nil earlier) g
+append_after problem earlier [] two h g = subst (λ e. AreAcceptedAfter problem e two) (append-nil earlier) g
 append_after problem earlier (s ∷ one) two h g = (h.0, append_after problem (earlier ++ s ∷ []) one two h.1 (subst (λ e. AreAcceptedAfter problem e two) (append_next earlier s one) g))
 
--- the front of accepted steps is accepted, and the rest after it
+-- the front of accepted steps is accepted
 pub front_after : (problem : Problem) (earlier one two : List Step) → AreAcceptedAfter problem earlier (one ++ two) → AreAcceptedAfter problem earlier one
 front_after problem earlier [] two h = tt
 front_after problem earlier (s ∷ one) two h = (h.0, front_after problem (earlier ++ s ∷ []) one two h.1)
 
+-- and the rest after it
 pub back_after : (problem : Problem) (earlier one two : List Step) → AreAcceptedAfter problem earlier (one ++ two) → AreAcceptedAfter problem (earlier ++ one) two
-back_after problem earlier [] two h = subst (λ e. AreAcceptedAfter problem e two) (sym (append_nil earlier)) h
+back_after problem earlier [] two h = subst (λ e. AreAcceptedAfter problem e two) (sym (append-nil earlier)) h
 back_after problem earlier (s ∷ one) two h = subst (λ e. AreAcceptedAfter problem e two) (sym (append_next earlier s one)) (back_after problem (earlier ++ s ∷ []) one two h.1)
 
 -- An accepted list with a step that is accepted after it is accepted.
@@ -124,7 +120,7 @@ at_after : (problem : Problem) (earlier steps : List Step) (n : ℕ) (s : Step) 
 at_after problem earlier [] n s h e = cc
 at_after problem earlier (t ∷ steps) zero s h e =
     let same : t ≡ s = cc in
-    subst (λ e. IsAccepted problem e s) (sym (append_nil earlier)) (subst (λ x. IsAccepted problem earlier x) same h.0)
+    subst (λ e. IsAccepted problem e s) (sym (append-nil earlier)) (subst (λ x. IsAccepted problem earlier x) same h.0)
 at_after problem earlier (t ∷ steps) (suc n) s h e =
     subst (λ e. IsAccepted problem e s) (sym (append_next earlier t (take n steps))) (at_after problem (earlier ++ t ∷ []) steps n s h.1 e)
 

@@ -10,17 +10,17 @@ abbrev pub value_of : List Bool → ℕ → Bool
 value_of values a = slice_index_or values a false
 
 -- a truth value under the sign of a literal
-abbrev pub signed : Bool → Bool → Bool
-signed true b = b
-signed false b = not b
+abbrev pub under_sign : Bool → Bool → Bool
+under_sign true b = b
+under_sign false b = not b
 
 -- the literal is true
 abbrev pub makes_true : List Bool → Lit → Bool
-makes_true values l = signed l.positive (value_of values l.atom.0)
+makes_true values l = under_sign l.positive (value_of values l.atom.0)
 
 -- the literal that is true exactly where this one is false
-abbrev pub negated : Lit → Lit
-negated l = record { atom = l.atom; positive = not l.positive }
+abbrev pub negation : Lit → Lit
+negation l = record { atom = l.atom; positive = not l.positive }
 
 -- how many of the literals are true
 abbrev pub true_number : List Bool → List Lit → ℕ

@@ -6,7 +6,7 @@ use Rattle.count_core.specs.Assignments.{Satisfies, SatisfiesQuestion}
 
 -- The fact holds or it does not, and it is known which.
 abbrev pub Decided : Type 0 → Type 0
-Decided P = P ⊎ (P → ⊥)
+Decided P = P ⊎ (¬ P)
 
 -- Some assignment satisfies the problem and the question.
 abbrev pub IsSatisfiable : Problem → List Lit → Type 0

@@ -1,10 +1,10 @@
 -- Count problems, and which rules make one.
-use Rattle.std.specs.Prelude.{◌≡◌, ℕ, ◌+◌, ◌≤◌, ◌<◌, ◌^◌, ◌==◌, ◌||◌, Bool, true, false, nat_lt, List, [], ◌∷◌, length, Option, Some, None, if◌then◌else◌}
+use Rattle.std.specs.Prelude.{◌≡◌, ◌≢◌, ℕ, ◌+◌, ◌≤◌, ◌<◌, ◌^◌, ◌==◌, ◌&&◌, ◌||◌, Bool, true, false, not, nat_lt, List, [], ◌∷◌, length, Option, Some, None, if◌then◌else◌}
 use Rattle.std.specs.List.{list_any, list_all, AllByRecursion}
 use Rattle.count_core.specs.declared.lit.Lit.{Lit}
 use Rattle.count_core.specs.declared.count_rule.CountRule.{CountRule}
 use Rattle.count_core.specs.declared.faults.CoreFault.{CoreFault}
-use Rattle.count_core.specs.declared.faults.CoreFault.TheVariants.{AtomRange, RepeatedAtom, BadBounds}
+use Rattle.count_core.specs.declared.faults.CoreFault.TheVariants.{AtomRange, RepeatedAtom, BadBounds, NoMemory}
 
 -- So many atoms, numbered from 0, and rules over them.
 pub record Problem : Type 0 where
@@ -23,6 +23,14 @@ repeats (l ∷ ls) = mentions l.atom.0 ls || repeats ls
 -- each literal is over one of so many atoms
 abbrev pub are_within : ℕ → List Lit → Bool
 are_within atoms lits = list_all (λ l. nat_lt l.atom.0 atoms) lits
+
+-- the literals are over different atoms, each one of so many
+abbrev pub are_distinct_within : ℕ → List Lit → Bool
+are_distinct_within atoms lits = are_within atoms lits && not (repeats lits)
+
+-- the problem of these atoms and rules
+abbrev pub problem_of : ℕ → List CountRule → Problem
+problem_of atoms rules = record { atoms = atoms; rules = rules }
 
 -- A rule of a problem with so many atoms.
 pub record IsWellFormedRule (atoms : ℕ) (r : CountRule) : Type 0 where
@@ -51,3 +59,7 @@ or_else (Some fault) rest = Some fault
 abbrev pub first_fault : ℕ → ℕ → List CountRule → Option CoreFault
 first_fault atoms n [] = None
 first_fault atoms n (r ∷ rs) = or_else (fault_of atoms n r) (first_fault atoms (n + 1) rs)
+
+-- The fault is out of memory, or the first fault of the rules.
+abbrev pub IsFirstFaultOrNoMemory : ℕ → List CountRule → CoreFault → Type 0
+IsFirstFaultOrNoMemory atoms rules fault = fault ≢ NoMemory → first_fault atoms 0 rules ≡ Some fault

@@ -1,14 +1,14 @@
 -- Accepted steps: reverse unit propagation with hints, as in LRAT, over count rules.
-use Rattle.std.specs.Prelude.{◌≡◌, ℕ, ◌+◌, ◌-◌, ◌&&◌, Bool, true, false, not, if◌then◌else◌, List, [], ◌∷◌, ◌++◌, length, Option, Some, None, slice_get, option_map, replicate, Contains}
+use Rattle.std.specs.Prelude.{◌≡◌, ℕ, ◌+◌, ◌-◌, Bool, true, false, if◌then◌else◌, List, [], ◌∷◌, ◌++◌, length, Option, Some, None, slice_get, option_map, replicate, Contains}
 use Rattle.std.specs.List.{AllByRecursion}
 use Rattle.count_core.specs.declared.lit.Lit.{Lit}
 use Rattle.count_core.specs.declared.hint.Hint.{Hint}
 use Rattle.count_core.specs.declared.hint.Hint.TheVariants.{Rule, Step as Earlier}
 use Rattle.count_core.specs.declared.step.Step.{Step}
 use Rattle.count_core.specs.declared.count_rule.CountRule.{CountRule}
-use Rattle.count_core.specs.Problems.{Problem, repeats, are_within}
-use Rattle.count_core.specs.Assignments.{negated}
-use Rattle.count_core.specs.Partials.{Partial, conflicts, forces, forced, settle_all}
+use Rattle.count_core.specs.Problems.{Problem, are_distinct_within}
+use Rattle.count_core.specs.Assignments.{negation}
+use Rattle.count_core.specs.PartialAssignments.{PartialAssignment, conflicts, forces, forced_assignment, assign_all}
 
 -- a clause as a rule: at least one of its literals
 abbrev pub clause_rule : List Lit → CountRule
@@ -26,48 +26,48 @@ is_last (h ∷ hs) = false
 
 -- One hint, number i, that names the rule: the last one has to conflict. Another must not, and has to
 -- force; then `go` says what comes after the literals that it forces.
-abbrev pub apply_hint : Partial → Option CountRule → Bool → ℕ → (Partial → Option ℕ) → Option ℕ
+abbrev pub apply_hint : PartialAssignment → Option CountRule → Bool → ℕ → (PartialAssignment → Option ℕ) → Option ℕ
 apply_hint p None last i go = Some i
 apply_hint p (Some r) last i go =
     if conflicts p r.lits r.lo r.hi
     then (if last then None else Some i)
-    else (if forces p r.lits r.lo r.hi then go (forced p r.lits r.lo r.hi) else Some i)
+    else (if forces p r.lits r.lo r.hi then go (forced_assignment p r.lits r.lo r.hi) else Some i)
 
 -- The hints applied in order, where `find` gives the rule of a hint: the number of the hint that
 -- fails, counted from i, or none. Where none is faulty and the last one only forces, that is the
 -- number past the last.
-abbrev pub failing_from : (Hint → Option CountRule) → Partial → List Hint → ℕ → Option ℕ
+abbrev pub failing_from : (Hint → Option CountRule) → PartialAssignment → List Hint → ℕ → Option ℕ
 failing_from find p [] i = Some i
 failing_from find p (h ∷ hs) i = apply_hint p (find h) (is_last hs) i (λ q. failing_from find q hs (i + 1))
 
--- the partial assignment that makes just the clause's literals false
-abbrev pub denied : ℕ → List Lit → Partial
-denied atoms clause = settle_all false clause (replicate atoms None)
+-- the clause's negation assumed: just its literals are set, each to false
+abbrev pub assumed_negation : ℕ → List Lit → PartialAssignment
+assumed_negation atoms clause = assign_all false clause (replicate atoms None)
 
 -- the literals are over different atoms of the problem
 abbrev pub is_clause : Problem → List Lit → Bool
-is_clause problem clause = are_within problem.atoms clause && not (repeats clause)
+is_clause problem clause = are_distinct_within problem.atoms clause
 
 -- The failing hint of a step after earlier ones, from 0, or none where it is accepted.
 abbrev pub failing_hint : Problem → List Step → Step → Option ℕ
 failing_hint problem earlier s =
     if is_clause problem s.clause
-    then failing_from (rule_at problem earlier) (denied problem.atoms s.clause) s.hints 0
+    then failing_from (rule_at problem earlier) (assumed_negation problem.atoms s.clause) s.hints 0
     else Some 0
 
--- The step is accepted after the earlier ones: with its clause denied, each hint but the last forces
--- without a conflict, and the last one conflicts.
+-- The step is accepted after the earlier ones: with the negation of its clause assumed, each hint but
+-- the last forces without a conflict, and the last one conflicts.
 abbrev pub IsAccepted : Problem → List Step → Step → Type 0
 IsAccepted problem earlier s = failing_hint problem earlier s ≡ None
 
 -- With p set, the hints lead to a conflict: each but the last names a rule that forces without a
 -- conflict, and the last names a rule that conflicts.
-abbrev pub LeadToConflict : (Hint → Option CountRule) → Partial → List Hint → Type 0
+abbrev pub LeadToConflict : (Hint → Option CountRule) → PartialAssignment → List Hint → Type 0
 LeadToConflict find p [] = ⊥
 LeadToConflict find p (h ∷ []) = (r : CountRule) × (find h ≡ Some r) × (conflicts p r.lits r.lo r.hi ≡ true)
 LeadToConflict find p (h ∷ g ∷ hs) =
     (r : CountRule) × (find h ≡ Some r) × (conflicts p r.lits r.lo r.hi ≡ false) × (forces p r.lits r.lo r.hi ≡ true)
-    × LeadToConflict find (forced p r.lits r.lo r.hi) (g ∷ hs)
+    × LeadToConflict find (forced_assignment p r.lits r.lo r.hi) (g ∷ hs)
 
 -- Each step is accepted after the earlier ones and those before it.
 abbrev pub AreAcceptedAfter : Problem → List Step → List Step → Type 0
@@ -80,7 +80,7 @@ AreAccepted problem steps = AreAcceptedAfter problem [] steps
 
 -- each literal of the clause is the negation of one of the question's
 abbrev pub NegatesOnly : List Lit → List Lit → Type 0
-NegatesOnly question clause = AllByRecursion (λ l. Contains question (negated l)) clause
+NegatesOnly question clause = AllByRecursion (λ l. Contains question (negation l)) clause
 
 -- the list has a last step, and this is it
 abbrev pub HasLast : List Step → Step → Type 0

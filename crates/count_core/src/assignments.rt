@@ -1,26 +1,24 @@
-ghost use Rattle.std.specs.Prelude.{◌≡◌, Decides};
+ghost use Rattle.std.specs.Prelude.{◌≡◌, ◌↔◌, IsTrue};
 ghost use Rattle.count_core.specs.Assignments.{makes_true, true_number, SatisfiesRule, Satisfies};
 
 use crate::count_rule::CountRule;
 use crate::lit::Lit;
 use crate::problem::Problem;
 
-/// Whether the values satisfy each rule of the problem: the number of the rule's true literals is
-/// from its `lo` to its `hi`. Values are by atom from 0; an atom past their end is false, so there
-/// may be fewer or more of them than atoms. Takes no memory.
+/// Whether the values satisfy each rule of the problem. Values are by atom from 0; an atom past
+/// their end is false, so there may be fewer or more of them than atoms.
 pub fn satisfied(problem: &Problem, values: &[bool]) -> bool
-    ensures { Decides result (Satisfies values.now problem.now) }
+    ensures { IsTrue result ↔ Satisfies values.now problem.now }
 {
-    for rule in problem.rules() {
-        if !satisfies_rule(values, rule) {
-            return false;
-        }
-    }
-    true
+    problem
+        .rules()
+        .iter()
+        .all(|rule| satisfies_rule(values, rule))
 }
 
+/// Whether the number of the rule's true literals is from its `lo` to its `hi`.
 fn satisfies_rule(values: &[bool], rule: &CountRule) -> bool
-    ensures { Decides result (SatisfiesRule values.now rule.now) }
+    ensures { IsTrue result ↔ SatisfiesRule values.now rule.now }
 {
     let number = true_number(values, rule.lits.as_slice());
     rule.lo as usize <= number && number <= rule.hi as usize

@@ -13,7 +13,7 @@ pub struct CountRule {
 }
 
 impl CountRule {
-    /// An equal rule, or want of memory.
+    /// An equal rule.
     pub fn clone_in(&self, alloc: Global) -> Result<CountRule, AllocError>
         ensures { IfOk result (λ r. r ≡ self.now) }
     {

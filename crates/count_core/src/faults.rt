@@ -14,12 +14,12 @@ pub enum CoreFault {
     RepeatedAtom { rule: u32 },
     /// 3: the rule's `lo` is above its `hi`.
     BadBounds { rule: u32 },
-    /// 4: want of memory.
+    /// 4: out of memory.
     NoMemory,
 }
 
-/// The first fault of the first rule that has one. Takes memory for one mark per atom, so that the
-/// time is in proportion to the atoms and literals.
+/// The first fault of the first rule that has one. It takes memory for one mark per atom, so that
+/// the time is in proportion to the atoms and literals.
 pub(crate) fn first_fault(
     alloc: Global,
     atoms: u32,
@@ -72,12 +72,7 @@ fn fault_of(marks: &mut [u32], place: u32, rule: &CountRule) -> Option<CoreFault
 fn are_within(atoms: usize, lits: &[Lit]) -> bool
     ensures { result ≡ are_within atoms lits.now }
 {
-    for lit in lits {
-        if lit.atom.0 as usize >= atoms {
-            return false;
-        }
-    }
-    true
+    lits.iter().all(|lit| (lit.atom.0 as usize) < atoms)
 }
 
 /// Whether two literals are over one atom. Leaves the mark at each atom that it met.

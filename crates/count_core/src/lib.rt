@@ -4,6 +4,9 @@
 //! true. A step is a clause with hints, as in LRAT: with the clause's literals set false, each hint
 //! names a rule or an earlier clause that forces literals by its bounds, and the last one
 //! conflicts. This crate has the types and the definitions; it does not propagate.
+//!
+//! A call that is given an allocator may run out of memory, and reports it; every other call takes
+//! none. A law is a call that does nothing: its contract is a fact about the definitions.
 #![tactic(auto)]
 
 mod assignments;

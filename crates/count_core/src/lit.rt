@@ -10,11 +10,11 @@ pub struct Lit {
 }
 
 impl Lit {
-    ghost use Rattle.count_core.specs.Assignments.{negated};
+    ghost use Rattle.count_core.specs.Assignments.{negation};
 
-    /// The literal that is true exactly where this one is false. Takes no memory.
-    pub fn negated(self) -> Lit
-        ensures { result ≡ negated self }
+    /// The literal that is true exactly where this one is false.
+    pub fn negation(self) -> Lit
+        ensures { result ≡ negation self }
     {
         Lit {
             atom: self.atom,

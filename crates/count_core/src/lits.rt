@@ -20,14 +20,14 @@ impl Model for Lits {
 }
 
 impl Lits {
-    /// The list of these. Takes no memory.
+    /// The list of these.
     pub fn new(entries: Vec<Lit>) -> Lits
         ensures { result ≡ entries.items }
     {
         Lits { entries }
     }
 
-    /// A copy of these, or want of memory.
+    /// A copy of these.
     pub fn from_slice(alloc: Global, entries: &[Lit]) -> Result<Lits, AllocError>
         ensures { IfOk result (λ s. s ≡ entries.now) }
     {
@@ -36,21 +36,21 @@ impl Lits {
         })
     }
 
-    /// An equal list, or want of memory.
+    /// An equal list.
     pub fn clone_in(&self, alloc: Global) -> Result<Lits, AllocError>
         ensures { IfOk result (λ s. s ≡ self.now) }
     {
         Lits::from_slice(alloc, self.entries.as_slice())
     }
 
-    /// The entries, in order. Takes no memory.
+    /// The entries, in order.
     pub fn as_slice(&self) -> &[Lit]
         ensures { result.now ≡ self.now }
     {
         self.entries.as_slice()
     }
 
-    /// The entries, in order, by value. Takes no memory.
+    /// The entries, in order, by value.
     pub fn into_vec(self) -> Vec<Lit>
         ensures { result.items ≡ self }
     {

@@ -1,5 +1,5 @@
-ghost use Rattle.std.specs.Prelude.{◌≡◌, ◌≢◌, ◌<◌, ◌^◌, length, Some, None, IfOk, IfErr, Decides};
-ghost use Rattle.count_core.specs.Problems.{IsWellFormed, first_fault};
+ghost use Rattle.std.specs.Prelude.{◌≡◌, ◌<◌, ◌^◌, ◌↔◌, length, None, IfOk, IfErr, IsTrue};
+ghost use Rattle.count_core.specs.Problems.{IsWellFormed, IsFirstFaultOrNoMemory, first_fault, problem_of};
 
 use crate::count_rule::CountRule;
 use crate::faults::{self, CoreFault};
@@ -25,9 +25,9 @@ impl Model for Problem {
 
     ghost Value = { spec.Problem };
 
-    ghost view = { λ p. record { atoms = p.atoms; rules = p.rules.items } };
+    ghost view = { λ p. spec.problem_of p.atoms p.rules.items };
 
-    ghost invariant = { λ p. spec.IsWellFormed (record { atoms = p.atoms; rules = p.rules.items }) };
+    ghost invariant = { λ p. spec.IsWellFormed (spec.problem_of p.atoms p.rules.items) };
 }
 
 impl Problem {
@@ -35,10 +35,11 @@ impl Problem {
     /// the first rule that has one, in the order of the faults' numbers.
     pub fn build(alloc: Global, atoms: u32, rules: Vec<CountRule>) -> Result<Problem, CoreFault>
         requires few { length rules.items < 2 ^ 32 }
-        ensures ok { IfOk result (λ p. p ≡ record { atoms = atoms; rules = rules.items }) }
+        ensures ok { IfOk result (λ p. p ≡ problem_of atoms rules.items) }
         ensures right { IfOk result (λ p. first_fault atoms 0 rules.items ≡ None) }
-        ensures fault { IfErr result (λ f. f ≢ CoreFault.NoMemory → first_fault atoms 0 rules.items ≡ Some f) }
-        ensures formed { IsWellFormed (record { atoms = atoms; rules = rules.items }) → IfErr result (λ f. f ≡ CoreFault.NoMemory) }
+        ensures fault { IfErr result (λ f. IsFirstFaultOrNoMemory atoms rules.items f) }
+        ensures formed { IsWellFormed (problem_of atoms rules.items)
+            → IfErr result (λ f. f ≡ CoreFault.NoMemory) }
     {
         match faults::first_fault(alloc, atoms, rules.as_slice()) {
             Ok(None) => Ok(Problem { atoms, rules }),
@@ -47,7 +48,7 @@ impl Problem {
         }
     }
 
-    /// The number of atoms. Takes no memory.
+    /// The number of atoms.
     pub fn atoms(&self) -> u32
         ensures atoms { result ≡ self.now.atoms }
         ensures formed { IsWellFormed self.now }
@@ -55,7 +56,7 @@ impl Problem {
         self.atoms
     }
 
-    /// The rules, in the order of their numbers. Takes no memory.
+    /// The rules, in the order of their numbers.
     pub fn rules(&self) -> &[CountRule]
         ensures rules { result.now ≡ self.now.rules }
         ensures formed { IsWellFormed self.now }
@@ -64,9 +65,9 @@ impl Problem {
     }
 
     /// Whether both are one and the same problem: as many atoms, and the same rules in the same
-    /// order. Takes no memory.
+    /// order.
     pub fn equals(&self, other: &Problem) -> bool
-        ensures { Decides result (self.now ≡ other.now) }
+        ensures { IsTrue result ↔ (self.now ≡ other.now) }
     {
         self.atoms == other.atoms && same_rules(self.rules.as_slice(), other.rules.as_slice())
     }

@@ -1,4 +1,4 @@
-ghost use Rattle.std.specs.Prelude.{◌≡◌, false, IfOk, Decides};
+ghost use Rattle.std.specs.Prelude.{◌≡◌, ◌↔◌, false, IfOk, IsTrue};
 ghost use Rattle.count_core.specs.Problems.{mentions, repeats};
 
 use crate::lit::Lit;
@@ -28,7 +28,6 @@ impl Model for Question {
 
 impl Question {
     /// The question of these literals, which are over different atoms, as `are_distinct` tells.
-    /// Takes no memory.
     pub fn new(lits: Lits) -> Question
         requires { repeats lits ≡ false }
         ensures { result ≡ lits }
@@ -36,7 +35,7 @@ impl Question {
         Question { lits }
     }
 
-    /// The literals, in order. Takes no memory.
+    /// The literals, in order.
     pub fn lits(&self) -> &[Lit]
         ensures lits { result.now ≡ self.now }
         ensures distinct { repeats self.now ≡ false }
@@ -44,14 +43,14 @@ impl Question {
         self.lits.as_slice()
     }
 
-    /// Whether both have the same literals in the same order. Takes no memory.
+    /// Whether both have the same literals in the same order.
     pub fn equals(&self, other: &Question) -> bool
-        ensures { Decides result (self.now ≡ other.now) }
+        ensures { IsTrue result ↔ (self.now ≡ other.now) }
     {
         same_lits(self.lits.as_slice(), other.lits.as_slice())
     }
 
-    /// An equal question, or want of memory.
+    /// An equal question.
     pub fn clone_in(&self, alloc: Global) -> Result<Question, AllocError>
         ensures { IfOk result (λ q. q ≡ self.now) }
     {
@@ -60,10 +59,9 @@ impl Question {
     }
 }
 
-/// Whether no two of the literals are over one atom. Takes no memory, and time by the square of
-/// their number.
+/// Whether no two of the literals are over one atom, in time by the square of their number.
 pub fn are_distinct(lits: &[Lit]) -> bool
-    ensures { Decides result (repeats lits.now ≡ false) }
+    ensures { IsTrue result ↔ (repeats lits.now ≡ false) }
 {
     for (i, lit) in lits.iter().enumerate() {
         if mentions(lit.atom.0, &lits[i + 1..]) {
@@ -77,10 +75,5 @@ pub fn are_distinct(lits: &[Lit]) -> bool
 fn mentions(atom: u32, lits: &[Lit]) -> bool
     ensures { result ≡ mentions atom lits.now }
 {
-    for lit in lits {
-        if lit.atom.0 == atom {
-            return true;
-        }
-    }
-    false
+    lits.iter().any(|lit| lit.atom.0 == atom)
 }

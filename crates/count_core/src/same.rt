@@ -1,11 +1,11 @@
-ghost use Rattle.std.specs.Prelude.{◌≡◌, Decides};
+ghost use Rattle.std.specs.Prelude.{◌≡◌, ◌↔◌, IsTrue};
 
 use crate::count_rule::CountRule;
 use crate::lit::Lit;
 
 /// Whether the literals are the same, in the same order.
 pub(crate) fn same_lits(one: &[Lit], other: &[Lit]) -> bool
-    ensures { Decides result (one.now ≡ other.now) }
+    ensures { IsTrue result ↔ (one.now ≡ other.now) }
 {
     if one.len() != other.len() {
         return false;
@@ -20,7 +20,7 @@ pub(crate) fn same_lits(one: &[Lit], other: &[Lit]) -> bool
 
 /// Whether the rules are the same, in the same order.
 pub(crate) fn same_rules(one: &[CountRule], other: &[CountRule]) -> bool
-    ensures { Decides result (one.now ≡ other.now) }
+    ensures { IsTrue result ↔ (one.now ≡ other.now) }
 {
     if one.len() != other.len() {
         return false;
@@ -34,7 +34,7 @@ pub(crate) fn same_rules(one: &[CountRule], other: &[CountRule]) -> bool
 }
 
 fn same_rule(one: &CountRule, other: &CountRule) -> bool
-    ensures { Decides result (one.now ≡ other.now) }
+    ensures { IsTrue result ↔ (one.now ≡ other.now) }
 {
     one.lo == other.lo
         && one.hi == other.hi

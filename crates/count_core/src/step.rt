@@ -13,7 +13,7 @@ pub struct Step {
 }
 
 impl Step {
-    /// An equal step, or want of memory.
+    /// An equal step.
     pub fn clone_in(&self, alloc: Global) -> Result<Step, AllocError>
         ensures { IfOk result (λ s. s ≡ self.now) }
     {

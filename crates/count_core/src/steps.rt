@@ -20,14 +20,14 @@ impl Model for Steps {
 }
 
 impl Steps {
-    /// The list of these. Takes no memory.
+    /// The list of these.
     pub fn new(entries: Vec<Step>) -> Steps
         ensures { result ≡ entries.items }
     {
         Steps { entries }
     }
 
-    /// A copy of these, or want of memory.
+    /// A copy of these.
     pub fn from_slice(alloc: Global, entries: &[Step]) -> Result<Steps, AllocError>
         ensures { IfOk result (λ s. s ≡ entries.now) }
     {
@@ -38,21 +38,21 @@ impl Steps {
         Ok(Steps { entries: copies })
     }
 
-    /// An equal list, or want of memory.
+    /// An equal list.
     pub fn clone_in(&self, alloc: Global) -> Result<Steps, AllocError>
         ensures { IfOk result (λ s. s ≡ self.now) }
     {
         Steps::from_slice(alloc, self.entries.as_slice())
     }
 
-    /// The steps, in order. Takes no memory.
+    /// The steps, in order.
     pub fn as_slice(&self) -> &[Step]
         ensures { result.now ≡ self.now }
     {
         self.entries.as_slice()
     }
 
-    /// The steps, in order, by value. Takes no memory.
+    /// The steps, in order, by value.
     pub fn into_vec(self) -> Vec<Step>
         ensures { result.items ≡ self }
     {

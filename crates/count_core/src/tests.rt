@@ -90,7 +90,7 @@ fn rules_of(alloc: Global, rows: &[Row<'_>]) -> Result<Vec<CountRule>, NoMemory>
     Ok(rules)
 }
 
-fn built(alloc: Global, atoms: u32, rows: &[Row<'_>]) -> Result<Problem, CoreFault> {
+fn build(alloc: Global, atoms: u32, rows: &[Row<'_>]) -> Result<Problem, CoreFault> {
     match rules_of(alloc, rows) {
         Ok(rules) if rules.len() < 100 => Problem::build(alloc, atoms, rules),
         _ => Err(CoreFault::NoMemory),
@@ -101,7 +101,7 @@ fn built(alloc: Global, atoms: u32, rows: &[Row<'_>]) -> Result<Problem, CoreFau
 fn first_faults(rt: HostRuntime) {
     for (atoms, rows, fault) in FAULTS {
         assert_eq!(rt;
-            built(rt.alloc(), atoms, rows).err(),
+            build(rt.alloc(), atoms, rows).err(),
             fault,
             "{atoms} atoms, {rows:?}"
         );
@@ -121,7 +121,7 @@ fn satisfies_the_rules(rt: HostRuntime) {
         (&CLASH[8..], &[], true),
     ];
     for (rows, values, want) in cases {
-        let answer = built(rt.alloc(), 8, rows)
+        let answer = build(rt.alloc(), 8, rows)
             .ok()
             .map(|p| satisfied(&p, values));
         assert_eq!(rt; answer, Some(want), "{rows:?} under {values:?}");
@@ -145,13 +145,13 @@ fn equal_problems(rt: HostRuntime) {
 }
 
 fn same_as_two_rules(alloc: Global, atoms: u32, rows: &[Row<'_>]) -> Result<bool, CoreFault> {
-    let one = built(alloc, 8, &CLASH[..2])?;
-    let other = built(alloc, atoms, rows)?;
+    let one = build(alloc, 8, &CLASH[..2])?;
+    let other = build(alloc, atoms, rows)?;
     Ok(one.equals(&other) && one.atoms() == 8 && one.rules().len() == 2)
 }
 
 /// Compiles only for values that threads may share.
-fn shared<T: Send + Sync>(value: T) -> T {
+fn share<T: Send + Sync>(value: T) -> T {
     value
 }
 
@@ -161,7 +161,7 @@ fn questions_and_literals(rt: HostRuntime) -> Result<(), Fail> {
     let lits = [lit(4, true), lit(2, false)];
     assert!(rt; are_distinct(&lits));
     assert!(rt; !are_distinct(&[lit(4, true), lit(2, true), lit(4, false)]));
-    assert_eq!(rt; lit(4, true).negated(), lit(4, false));
+    assert_eq!(rt; lit(4, true).negation(), lit(4, false));
     let question = Question::new(Lits::from_slice(alloc, &lits)?);
     let copy = question.clone_in(alloc)?;
     assert!(rt; copy.equals(&question));
@@ -170,20 +170,20 @@ fn questions_and_literals(rt: HostRuntime) -> Result<(), Fail> {
 }
 
 /// Values by way of each of their functions: made of a slice, moved out and in, and copied.
-fn copied_values(alloc: Global, entries: &[bool]) -> Result<Values, NoMemory> {
+fn copy_of_values(alloc: Global, entries: &[bool]) -> Result<Values, NoMemory> {
     let entries = Values::from_slice(alloc, entries)?.into_vec();
     Values::new(entries).clone_in(alloc)
 }
 
 /// Literals by way of each of their functions.
-fn copied_lits(alloc: Global, entries: &[Lit]) -> Result<Lits, NoMemory> {
+fn copy_of_lits(alloc: Global, entries: &[Lit]) -> Result<Lits, NoMemory> {
     let entries = Lits::from_slice(alloc, entries)?.into_vec();
     Lits::new(entries).clone_in(alloc)
 }
 
 #[test]
 fn copies_of_values(rt: HostRuntime) -> Result<(), Fail> {
-    let values = copied_values(rt.alloc(), &[true, false, false])?;
+    let values = copy_of_values(rt.alloc(), &[true, false, false])?;
     assert_eq!(rt; values.as_slice(), [true, false, false].as_slice());
     let entries = values.into_vec();
     assert_eq!(rt; entries.as_slice(), [true, false, false].as_slice());
@@ -192,7 +192,7 @@ fn copies_of_values(rt: HostRuntime) -> Result<(), Fail> {
 
 #[test]
 fn copies_of_literals(rt: HostRuntime) -> Result<(), Fail> {
-    let lits = copied_lits(rt.alloc(), &[lit(4, true), lit(2, false)])?;
+    let lits = copy_of_lits(rt.alloc(), &[lit(4, true), lit(2, false)])?;
     let entries = lits.into_vec();
     assert_eq!(rt;
         entries.as_slice(),
@@ -202,7 +202,7 @@ fn copies_of_literals(rt: HostRuntime) -> Result<(), Fail> {
 }
 
 /// A copy of a step, by way of the lists of its clause and of its hints.
-fn copied(alloc: Global, clause: &[Lit], hints: &[Hint]) -> Result<Step, NoMemory> {
+fn copy_of_step(alloc: Global, clause: &[Lit], hints: &[Hint]) -> Result<Step, NoMemory> {
     let hints = Hints::from_slice(alloc, hints)?.into_vec();
     let clause = Lits::from_slice(alloc, clause)?;
     let step = Step {
@@ -212,9 +212,9 @@ fn copied(alloc: Global, clause: &[Lit], hints: &[Hint]) -> Result<Step, NoMemor
     step.clone_in(alloc)
 }
 
-fn listed(alloc: Global, clause: &[Lit], hints: &[Hint]) -> Result<Steps, NoMemory> {
+fn list_of_step(alloc: Global, clause: &[Lit], hints: &[Hint]) -> Result<Steps, NoMemory> {
     let mut steps = Vec::new(alloc);
-    let step = copied(alloc, clause, hints)?;
+    let step = copy_of_step(alloc, clause, hints)?;
     steps.push(step)?;
     Steps::new(steps).clone_in(alloc)
 }
@@ -223,23 +223,23 @@ fn listed(alloc: Global, clause: &[Lit], hints: &[Hint]) -> Result<Steps, NoMemo
 fn copies_of_steps(rt: HostRuntime) {
     let clause = [lit(0, false)];
     let hints = [Hint::Rule(8), Hint::Rule(5)];
-    let Ok(steps) = listed(rt.alloc(), &clause, &hints) else {
-        assert!(rt; false, "memory");
+    let Ok(steps) = list_of_step(rt.alloc(), &clause, &hints) else {
+        assert!(rt; false, "out of memory");
         return;
     };
     assert_eq!(rt; steps.as_slice().len(), 1);
-    for step in shared(steps).into_vec().iter() {
+    for step in share(steps).into_vec().iter() {
         assert_eq!(rt; step.clause.as_slice(), clause.as_slice());
         assert_eq!(rt; step.hints.as_slice(), hints.as_slice());
     }
 }
 
 fn shared_rule(alloc: Global) -> Result<usize, CoreFault> {
-    let problem = built(alloc, 8, &CLASH)?;
+    let problem = build(alloc, 8, &CLASH)?;
     let Ok(problem) = SharedProblem::new(alloc, problem) else {
         return Err(CoreFault::NoMemory);
     };
-    let problem = shared(problem);
+    let problem = share(problem);
     match problem.rules() {
         [.., last] => match last.clone_in(alloc) {
             Ok(rule) => Ok(rule.lits.as_slice().len()),

@@ -18,14 +18,14 @@ impl Model for Values {
 }
 
 impl Values {
-    /// The list of these. Takes no memory.
+    /// The list of these.
     pub fn new(entries: Vec<bool>) -> Values
         ensures { result ≡ entries.items }
     {
         Values { entries }
     }
 
-    /// A copy of these, or want of memory.
+    /// A copy of these.
     pub fn from_slice(alloc: Global, entries: &[bool]) -> Result<Values, AllocError>
         ensures { IfOk result (λ s. s ≡ entries.now) }
     {
@@ -34,21 +34,21 @@ impl Values {
         })
     }
 
-    /// An equal list, or want of memory.
+    /// An equal list.
     pub fn clone_in(&self, alloc: Global) -> Result<Values, AllocError>
         ensures { IfOk result (λ s. s ≡ self.now) }
     {
         Values::from_slice(alloc, self.entries.as_slice())
     }
 
-    /// The entries, in order. Takes no memory.
+    /// The entries, in order.
     pub fn as_slice(&self) -> &[bool]
         ensures { result.now ≡ self.now }
     {
         self.entries.as_slice()
     }
 
-    /// The entries, in order, by value. Takes no memory.
+    /// The entries, in order, by value.
     pub fn into_vec(self) -> Vec<bool>
         ensures { result.items ≡ self }
     {

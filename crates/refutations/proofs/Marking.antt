@@ -5,8 +5,8 @@ use Rattle.std.specs.List.{list_any}
 use Rattle.std.proofs.lemmas.Bool.Decides.{Decides-eqb}
 use Rattle.count_core.specs.declared.step.Step.{Step}
 use Rattle.refutations.specs.Earlier.{AreEarlier}
-use Rattle.refutations.specs.Cones.{is_to, Names, Reaches, itself, onward, is_in}
-use Rattle.refutations.proofs.Naming.{any_below}
+use Rattle.refutations.specs.Cones.{is_to, AddsNamed, Names, Reaches, itself, onward, is_in}
+use Rattle.refutations.proofs.EarlierSteps.{any_below}
 
 -- What is marked is reached, the named step is marked, and what steps from i on name is marked where
 -- they are.
@@ -14,6 +14,8 @@ pub record IsMarked (steps : List Step) (from : ℕ) (marks : List Bool) (i : �
   pub sound : (n : ℕ) → is_in marks n ≡ true → Reaches steps from n
   pub start : is_in marks from ≡ true
   pub closed : (n m : ℕ) → i ≤ n → is_in marks n ≡ true → Names steps n m → is_in marks m ≡ true
+
+-- ---- tests
 
 or_cases : (x y : Bool) → (x || y) ≡ true → (x ≡ true) ⊎ (y ≡ true)
 or_cases true y e = inl refl
@@ -23,7 +25,7 @@ or_left : (x y : Bool) → x ≡ true → (x || y) ≡ true
 or_left true y e = refl
 or_left false y e = cc
 
-or_right : (x y : Bool) → y ≡ true → (x || y) ≡ true
+pub or_right : (x y : Bool) → y ≡ true → (x || y) ≡ true
 or_right true y e = refl
 or_right false y e = e
 
@@ -36,7 +38,10 @@ cut i n le = go (n == i) refl
         let ne : n ≢ i = λ q. (let yes : (n == i) ≡ true = (Decides-eqb n i).1 q in cc) in
         inr (omega arith)
 
-pub mark_start : (steps : List Step) (from : ℕ) (marks : List Bool) → from < length marks → ((n : ℕ) → is_in marks n ≡ true → ⊥) → IsMarked steps from (slice_set marks from true) (from + 1)
+-- ---- one turn after the other
+
+-- the named step alone is marked
+pub mark_start : (steps : List Step) (from : ℕ) (marks : List Bool) → from < length marks → ((n : ℕ) → ¬ (is_in marks n ≡ true)) → IsMarked steps from (slice_set marks from true) (from + 1)
 mark_start steps from marks lt none = record {
   sound = λ n e. subst (Reaches steps from) (sym (only n e)) itself;
   start = get_or-set_same marks from true false lt;
@@ -61,7 +66,7 @@ mark_skip steps from marks i h unmarked = record {
 }
 
 -- it is, and what it names is marked too
-pub mark_next : (steps : List Step) (from : ℕ) (marks new : List Bool) (i : ℕ) (s : Step) → AreEarlier steps → slice_get steps i ≡ Some s → IsMarked steps from marks (i + 1) → is_in marks i ≡ true → ((n : ℕ) → is_in new n ≡ (is_in marks n || list_any (is_to n) s.hints)) → IsMarked steps from new i
+pub mark_next : (steps : List Step) (from : ℕ) (marks new : List Bool) (i : ℕ) (s : Step) → AreEarlier steps → slice_get steps i ≡ Some s → IsMarked steps from marks (i + 1) → is_in marks i ≡ true → AddsNamed marks new s.hints → IsMarked steps from new i
 mark_next steps from marks new i s earlier at h here is = record {
   sound = λ n e. elim (or_cases (is_in marks n) (list_any (is_to n) s.hints) (sym (is n) ∙ e)) [ inl old ↦ h.sound n old | inr any ↦ onward i n (h.sound i here) (s, at, any) ];
   start = stays from h.start;
@@ -84,5 +89,6 @@ module _ (steps : List Step) (from : ℕ) (marks : List Bool) (h : IsMarked step
   complete n itself = h.start
   complete n (onward k m r names) = h.closed k m (omega arith) (complete k r) names
 
+  -- at the end what is reached is marked, and nothing else
   pub mark_done : (n : ℕ) → (is_in marks n ≡ true) ↔ Reaches steps from n
   mark_done n = (h.sound n, complete n)

@@ -1,5 +1,5 @@
 -- The steps on which a step rests.
-use Rattle.std.specs.Prelude.{◌≡◌, ◌↔◌, ℕ, Bool, true, false, List, [], ◌∷◌, map, take, count_by, slice_get, slice_index_or, Some, ◌==◌, ◌+◌, length}
+use Rattle.std.specs.Prelude.{◌≡◌, ◌↔◌, ℕ, Bool, true, false, List, [], ◌∷◌, map, take, count_by, slice_get, slice_index_or, Some, ◌==◌, ◌||◌, ◌+◌, length}
 use Rattle.std.specs.List.{list_any}
 use Rattle.count_core.specs.declared.hint.Hint.{Hint}
 use Rattle.count_core.specs.declared.hint.Hint.TheVariants.{Rule, Step as Earlier}
@@ -33,14 +33,15 @@ abbrev pub placed_hint : List Bool → Hint → Hint
 placed_hint set (Rule n) = Rule n
 placed_hint set (Earlier n) = Earlier (number_below set n)
 
-abbrev pub placed : List Bool → Step → Step
-placed set s = record { clause = s.clause; hints = map (placed_hint set) s.hints }
+-- the same clause, by the placed hints
+abbrev pub placed_step : List Bool → Step → Step
+placed_step set s = record { clause = s.clause; hints = map (placed_hint set) s.hints }
 
 -- the steps whose mark is true, in their order, each with hints to places in the set
 abbrev pub sublist : List Bool → List Bool → List Step → List Step
 sublist set [] steps = []
 sublist set (b ∷ marks) [] = []
-sublist set (true ∷ marks) (s ∷ steps) = placed set s ∷ sublist set marks steps
+sublist set (true ∷ marks) (s ∷ steps) = placed_step set s ∷ sublist set marks steps
 sublist set (false ∷ marks) (s ∷ steps) = sublist set marks steps
 
 -- The cone of a step: exactly the steps that it reaches, in their order, renumbered by their places.
@@ -50,3 +51,7 @@ pub record IsCone (steps : List Step) (from : ℕ) (cone : List Step) : Type 0 w
   pub up_to : length reached ≡ from + 1
   pub exactly : (n : ℕ) → (is_in reached n ≡ true) ↔ Reaches steps from n
   pub in_order : cone ≡ sublist reached reached steps
+
+-- The marks are the old ones and those of the steps that the hints name.
+abbrev pub AddsNamed : List Bool → List Bool → List Hint → Type 0
+AddsNamed old new hints = (n : ℕ) → is_in new n ≡ (is_in old n || list_any (is_to n) hints)

@@ -1,6 +1,6 @@
 -- What a hint names, as this crate's code has it.
 use Rattle.count_core.specs.declared.count_rule.CountRule.{CountRule}
-use Rattle.refutations.specs.declared.propagation.Named.{Named}
+use Rattle.refutations.specs.declared.hint_check.Named.{Named}
 
 -- the rule with these literals and bounds
 abbrev pub rule_of : Named → CountRule

@@ -1,6 +1,6 @@
-ghost use Rattle.std.specs.Prelude.{◌≡◌, List, Bool, IfOk};
+ghost use Rattle.std.specs.Prelude.{◌≡◌, IfOk};
 ghost use Rattle.std.specs.Arc.{arc_value};
-ghost use Rattle.count_core.specs.Assignments.{Satisfies, SatisfiesQuestion};
+ghost use Rattle.count_core.specs.Decisions.{IsSatisfiable};
 ghost use Rattle.count_core.specs.Steps.{IsRefutation};
 ghost use Rattle.refutations.specs.Derivations as spec;
 
@@ -25,16 +25,16 @@ impl Model for Closed {
 
     ghost Value = { spec.Closing };
 
-    ghost view = { λ c. record { problem = arc_value c.problem; question = c.question; steps = c.steps } };
+    ghost view = { λ c. spec.closing_of (arc_value c.problem) c.question c.steps };
 
     ghost invariant = { λ c. IsRefutation (arc_value c.problem) c.question c.steps };
 }
 
 impl Closed {
-    /// The question with its refutation. Takes no memory.
+    /// The question with its refutation.
     pub(crate) fn of(problem: SharedProblem, question: Question, steps: Steps) -> Closed
         requires { IsRefutation (arc_value problem) question steps }
-        ensures { result ≡ record { problem = arc_value problem; question = question; steps = steps } }
+        ensures { result ≡ spec.closing_of (arc_value problem) question steps }
     {
         Closed {
             problem,
@@ -43,22 +43,22 @@ impl Closed {
         }
     }
 
-    /// The problem. Takes no memory.
+    /// The problem.
     pub fn problem(&self) -> &SharedProblem
         ensures { arc_value result.now ≡ self.now.problem }
     {
         &self.problem
     }
 
-    /// The question: no assignment satisfies it and the problem. Takes no memory.
+    /// The question: no assignment satisfies it and the problem.
     pub fn question(&self) -> &Question
         ensures question { result.now ≡ self.now.question }
-        ensures fails { (values : List Bool) → Satisfies values self.now.problem → SatisfiesQuestion values self.now.question → ⊥ }
+        ensures fails { ¬ (IsSatisfiable self.now.problem self.now.question) }
     {
         &self.question
     }
 
-    /// The steps of the refutation, from 0. Takes no memory.
+    /// The steps of the refutation, from 0.
     pub fn steps(&self) -> &[Step]
         ensures steps { result.now ≡ self.now.steps }
         ensures refutes { IsRefutation self.now.problem self.now.question self.now.steps }
@@ -66,7 +66,7 @@ impl Closed {
         self.steps.as_slice()
     }
 
-    /// An equal value, or want of memory.
+    /// An equal value.
     pub fn clone_in(&self, alloc: Global) -> Result<Closed, NoMemory>
         ensures { IfOk result (λ c. c ≡ self.now) }
     {

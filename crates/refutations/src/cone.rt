@@ -1,5 +1,5 @@
 ghost use Rattle.std.specs.Prelude.{◌≡◌, ◌↔◌, ◌+◌, ◌-◌, ◌^◌, ◌<◌, ◌≤◌, ◌||◌, ℕ, true, length, map, IfOk};
-ghost use Rattle.std.specs.List.{AllByRecursion, list_any};
+ghost use Rattle.std.specs.List.{AllByRecursion};
 ghost use Rattle.refutations.specs.Earlier.{IsBelow, AreEarlier, ArePlaces, by_place, by_places};
 ghost use Rattle.refutations.specs.Cones as spec;
 
@@ -23,7 +23,7 @@ pub(crate) fn cone_of(alloc: Global, steps: &[Step], from: usize) -> Result<Vec<
 fn mark_reached(marks: &mut [bool], steps: &[Step], from: usize)
     requires within { from < length steps.now }
     requires marks { length marks.old ≡ from + 1 }
-    requires none { (n : ℕ) → spec.is_in marks.old n ≡ true → ⊥ }
+    requires none { (n : ℕ) → ¬ (spec.is_in marks.old n ≡ true) }
     requires earlier { AreEarlier steps.now }
     ensures { (n : ℕ) → (spec.is_in marks.new n ≡ true) ↔ spec.Reaches steps.now from n }
 {
@@ -40,13 +40,14 @@ fn mark_reached(marks: &mut [bool], steps: &[Step], from: usize)
 /// Marks the steps that hints name, too.
 fn mark_named(marks: &mut [bool], hints: &[Hint])
     requires { AllByRecursion (IsBelow (length marks.old)) hints.now }
-    ensures { (n : ℕ) → spec.is_in marks.new n ≡ (spec.is_in marks.old n || list_any (spec.is_to n) hints.now) }
+    ensures { spec.AddsNamed marks.old marks.new hints.now }
 {
     for hint in hints {
         mark(marks, *hint);
     }
 }
 
+/// Marks the step that a hint names, if it names one.
 fn mark(marks: &mut [bool], hint: Hint)
     requires { IsBelow (length marks.old) hint }
     ensures { (n : ℕ) → spec.is_in marks.new n ≡ (spec.is_in marks.old n || spec.is_to n hint) }
@@ -87,13 +88,14 @@ fn sublist(
     let mut kept = Vec::new(alloc);
     for i in 0..marks.len() {
         if marks[i] {
-            kept.push(placed(alloc, places, &steps[i])?)?;
+            kept.push(placed_step(alloc, places, &steps[i])?)?;
         }
     }
     Ok(kept)
 }
 
-fn placed(alloc: Global, places: &[u32], step: &Step) -> Result<Step, AllocError>
+/// The step with hints to places.
+fn placed_step(alloc: Global, places: &[u32], step: &Step) -> Result<Step, AllocError>
     requires { AllByRecursion (IsBelow (length places.now)) step.now.hints }
     ensures { IfOk result (λ s. s ≡ by_places places.now step.now) }
 {
@@ -105,6 +107,7 @@ fn placed(alloc: Global, places: &[u32], step: &Step) -> Result<Step, AllocError
     })
 }
 
+/// The hints to places, in order.
 fn placed_hints(alloc: Global, places: &[u32], hints: &[Hint]) -> Result<Vec<Hint>, AllocError>
     requires { AllByRecursion (IsBelow (length places.now)) hints.now }
     ensures { IfOk result (λ v. v.items ≡ map (by_place places.now) hints.now) }
@@ -116,6 +119,7 @@ fn placed_hints(alloc: Global, places: &[u32], hints: &[Hint]) -> Result<Vec<Hin
     Ok(copies)
 }
 
+/// A hint to a step becomes one to its place.
 fn placed_hint(places: &[u32], hint: Hint) -> Hint
     requires { IsBelow (length places.now) hint }
     ensures { result ≡ by_place places.now hint }

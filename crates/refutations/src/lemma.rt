@@ -29,7 +29,7 @@ impl Model for Lemma {
 }
 
 impl Lemma {
-    /// The lemma of these steps, which are one of the problem. Takes no memory.
+    /// The lemma of these steps, which are one of the problem.
     pub(crate) fn of(problem: SharedProblem, steps: Steps) -> Lemma
         requires { spec.IsLemma (arc_value problem) steps }
         ensures { result ≡ record { problem = arc_value problem; steps = steps } }
@@ -37,14 +37,14 @@ impl Lemma {
         Lemma { problem, steps }
     }
 
-    /// The problem. Takes no memory.
+    /// The problem.
     pub fn problem(&self) -> &SharedProblem
         ensures { arc_value result.now ≡ self.now.problem }
     {
         &self.problem
     }
 
-    /// The steps, from 0. Takes no memory.
+    /// The steps, from 0.
     pub fn steps(&self) -> &[Step]
         ensures steps { result.now ≡ self.now.steps }
         ensures lemma { spec.IsLemma self.now.problem self.now.steps }
@@ -53,7 +53,7 @@ impl Lemma {
     }
 
     /// The clause of the last step: each assignment that satisfies the problem makes one of its
-    /// literals true. Takes no memory.
+    /// literals true.
     pub fn clause(&self) -> &[Lit]
         ensures clause { result.now ≡ spec.last_clause self.now.steps }
         ensures follows { Follows self.now.problem result.now }
@@ -61,7 +61,7 @@ impl Lemma {
         last_clause(self.steps.as_slice())
     }
 
-    /// An equal lemma, or want of memory.
+    /// An equal lemma.
     pub fn clone_in(&self, alloc: Global) -> Result<Lemma, NoMemory>
         ensures { IfOk result (λ l. l ≡ self.now) }
     {

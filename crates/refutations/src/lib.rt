@@ -1,21 +1,24 @@
 //! Logs of accepted steps, and what is taken out of them: lemmas, refutations of questions, and the
 //! steps on which one step rests.
 //!
-//! What an accepted step is, `count_core` says. A `ProofLog` takes a step only where it is accepted,
-//! by this crate's own propagation: the clause is denied, and each hint's rule or clause is counted
-//! under the values so far. A step costs what its hints touch: the values are undone by the list of
-//! what was set.
+//! What an accepted step is, `count_core` says. A `ProofLog` takes a step only where it is
+//! accepted, by this crate's own check of its hints: the negation of the clause is assumed, and each
+//! hint's rule or clause is counted under what is set by then. A step costs what its hints touch: what was
+//! set is noted on a trail, and unset by it.
+//!
+//! A call that is given an allocator may run out of memory, and reports it, but `ProofLog::new`,
+//! which takes none; every other call takes none either.
 #![tactic(auto)]
 
-mod board;
+mod assignment;
 mod closed;
 mod cone;
+mod effect;
+mod hint_check;
 mod lemma;
 mod log_fault;
 mod proof_log;
-mod propagation;
 mod shift;
-mod tally;
 #[cfg(test)]
 mod tests;
 

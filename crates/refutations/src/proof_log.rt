@@ -1,17 +1,17 @@
-ghost use Rattle.std.specs.Prelude.{◌≡◌, ◌+◌, ◌^◌, ◌<◌, ◌⊎◌, ◌++◌, [], ◌∷◌, ℕ, length, map, take, replicate, Some, None, IfOk, IfErr, OnOk, OnErr, IsErrOf};
+ghost use Rattle.std.specs.Prelude.{◌≡◌, ◌+◌, ◌^◌, ◌<◌, ◌⊎◌, [], ℕ, length, take, replicate, None, IfOk, IfErr, OnOk, OnErr, IsErrOf};
 ghost use Rattle.std.specs.Arc.{arc_value};
-ghost use Rattle.count_core.specs.Steps.{IsAccepted, AreAccepted, NegatesOnly, failing_hint as hint_that_fails};
+ghost use Rattle.count_core.specs.Steps.{AreAccepted, NegatesOnly, failing_hint as hint_that_fails};
 ghost use Rattle.refutations.specs.Derivations as spec;
-ghost use Rattle.refutations.specs.Shifts as shifts;
+ghost use Rattle.refutations.specs.Shifts.{ArePutBehind};
 ghost use Rattle.refutations.specs.Cones.{IsCone};
 
-use crate::board::Board;
+use crate::assignment::Assignment;
 use crate::closed::Closed;
 use crate::cone::cone_of;
+use crate::hint_check::failing_hint;
 use crate::lemma::Lemma;
 use crate::log_fault::LogFault;
-use crate::propagation::failing_hint;
-use crate::shift::shifted_all;
+use crate::shift::shifted_steps;
 use count_core::{Hint, Hints, Lit, Lits, NoMemory, Problem, Question, SharedProblem, Step, Steps};
 use std::alloc::{AllocError, Global};
 use std::marker::Model;
@@ -24,41 +24,41 @@ use std::sync::Arc;
 pub struct ProofLog {
     problem: SharedProblem,
     steps: Vec<Step>,
-    board: Board,
+    assignment: Assignment,
 }
 
 impl Model for ProofLog {
     ghost use Rattle.std.specs.Arc.{arc_value};
     ghost use Rattle.refutations.specs.Derivations as spec;
-    ghost use Rattle.refutations.specs.Kept.{IsKept};
+    ghost use Rattle.refutations.specs.Logs.{IsLog};
 
     ghost Value = { spec.Derivation };
 
     ghost view = { λ l. record { problem = arc_value l.problem; steps = l.steps.items } };
 
-    ghost invariant = { λ l. IsKept (arc_value l.problem) l.steps.items l.board };
+    ghost invariant = { λ l. IsLog (arc_value l.problem) l.steps.items l.assignment };
 }
 
 impl ProofLog {
-    /// A log without steps. Takes no memory.
+    /// A log without steps.
     pub fn new(alloc: Global, problem: SharedProblem) -> ProofLog
         ensures { result ≡ record { problem = arc_value problem; steps = [] } }
     {
         ProofLog {
             problem,
             steps: Vec::new(alloc),
-            board: Board::empty(alloc),
+            assignment: Assignment::empty(alloc),
         }
     }
 
-    /// The problem. Takes no memory.
+    /// The problem.
     pub fn problem(&self) -> &SharedProblem
         ensures { arc_value result.now ≡ self.now.problem }
     {
         &self.problem
     }
 
-    /// The steps, by their numbers from 0. Takes no memory.
+    /// The steps, by their numbers from 0.
     pub fn steps(&self) -> &[Step]
         ensures steps { result.now ≡ self.now.steps }
         ensures accepted { AreAccepted self.now.problem self.now.steps }
@@ -72,19 +72,23 @@ impl ProofLog {
     pub fn add(&mut self, alloc: Global, clause: &[Lit], hints: &[Hint]) -> Result<u32, LogFault>
         requires few { length hints.now < 2 ^ 32 }
         ensures number { IfOk result (λ n. n ≡ length self.old.steps) }
-        ensures added { OnOk result (self.new.steps ≡ self.old.steps ++ spec.step_of clause.now hints.now ∷ []) }
+        ensures added { OnOk result
+            (spec.IsPushed self.old.steps self.new.steps clause.now hints.now) }
         ensures clause { IfOk result (λ n. spec.clause_at self.new.steps n ≡ clause.now) }
         ensures problem { self.new.problem ≡ self.old.problem }
-        ensures accepted { OnOk result (IsAccepted self.old.problem self.old.steps (spec.step_of clause.now hints.now)) }
-        ensures refused { (n : ℕ) → IsErrOf result (LogFault.NotAccepted n) → hint_that_fails self.old.problem self.old.steps (spec.step_of clause.now hints.now) ≡ Some n }
-        ensures told { (n : ℕ) → hint_that_fails self.old.problem self.old.steps (spec.step_of clause.now hints.now) ≡ Some n → IfErr result (λ e. (e ≡ LogFault.NotAccepted n) ⊎ (e ≡ LogFault.NoMemory)) }
-        ensures taken { IsAccepted self.old.problem self.old.steps (spec.step_of clause.now hints.now) → IfErr result (λ e. e ≡ LogFault.NoMemory) }
+        ensures accepted { OnOk result (spec.Accepts self.old clause.now hints.now) }
+        ensures refused { (n : ℕ) → IsErrOf result (LogFault.NotAccepted n)
+            → spec.FailsAt self.old clause.now hints.now n }
+        ensures told { (n : ℕ) → spec.FailsAt self.old clause.now hints.now n
+            → IfErr result (λ e. (e ≡ LogFault.NotAccepted n) ⊎ (e ≡ LogFault.NoMemory)) }
+        ensures taken { spec.Accepts self.old clause.now hints.now
+            → IfErr result (λ e. e ≡ LogFault.NoMemory) }
         ensures room { OnOk result (length self.new.steps < 2 ^ 32) }
         ensures kept { OnErr result (self.new ≡ self.old) }
     {
-        let Ok(fault) = tested(
+        let Ok(fault) = check_step(
             alloc,
-            &mut self.board,
+            &mut self.assignment,
             &self.problem,
             self.steps.as_slice(),
             clause,
@@ -95,7 +99,7 @@ impl ProofLog {
         if let Some(hint) = fault {
             return Err(LogFault::NotAccepted { hint });
         }
-        let Ok(number) = pushed(alloc, &mut self.steps, clause, hints) else {
+        let Ok(number) = push_step(alloc, &mut self.steps, clause, hints) else {
             return Err(LogFault::NoMemory);
         };
         Ok(number)
@@ -107,7 +111,7 @@ impl ProofLog {
         requires { step < length self.now.steps }
         ensures problem { IfOk result (λ l. l.problem ≡ self.now.problem) }
         ensures steps { IfOk result (λ l. l.steps ≡ take (step + 1) self.now.steps) }
-        ensures clause { IfOk result (λ l. spec.last_clause l.steps ≡ spec.clause_at self.now.steps step) }
+        ensures clause { IfOk result (λ l. spec.EndsWithClause l.steps self.now.steps step) }
     {
         let steps = first_steps(alloc, self.steps.as_slice(), step as usize)?;
         let problem = Arc::try_clone(&self.problem)?;
@@ -130,11 +134,11 @@ impl ProofLog {
     }
 
     /// Adds the other log's steps at the end, of the same problem, and answers the shift: by so
-    /// much their numbers are greater here. After want of memory the log is as before.
+    /// much their numbers are greater here. Where memory runs out the log is as before.
     pub fn append_all(&mut self, alloc: Global, other: &ProofLog) -> Result<u32, NoMemory>
         requires { self.old.problem ≡ other.now.problem }
         ensures shift { IfOk result (λ n. n ≡ length self.old.steps) }
-        ensures steps { OnOk result (self.new.steps ≡ self.old.steps ++ map (shifts.shifted (length self.old.steps)) other.now.steps) }
+        ensures steps { OnOk result (ArePutBehind self.old.steps self.new.steps other.now.steps) }
         ensures problem { self.new.problem ≡ self.old.problem }
         ensures room { OnOk result (length self.new.steps < 2 ^ 32) }
         ensures kept { OnErr result (self.new ≡ self.old) }
@@ -143,7 +147,7 @@ impl ProofLog {
         if other.steps.len() > u32::MAX as usize - shift {
             return Err(AllocError);
         }
-        let mut steps = shifted_all(alloc, other.steps.as_slice(), shift as u32)?;
+        let mut steps = shifted_steps(alloc, other.steps.as_slice(), shift as u32)?;
         self.steps.append(&mut steps)?;
         Ok(shift as u32)
     }
@@ -154,51 +158,56 @@ impl ProofLog {
         requires { step < length self.now.steps }
         ensures cone { IfOk result (λ v. IsCone self.now.steps step v.items) }
         ensures lemma { IfOk result (λ v. spec.IsLemma self.now.problem v.items) }
-        ensures clause { IfOk result (λ v. spec.last_clause v.items ≡ spec.clause_at self.now.steps step) }
+        ensures clause { IfOk result (λ v. spec.EndsWithClause v.items self.now.steps step) }
     {
         cone_of(alloc, self.steps.as_slice(), step as usize)
     }
 }
 
-/// The failing hint of a step after the earlier ones, or none where it is accepted. Makes the board
-/// where it was not made yet; no atom has a value before and afterwards.
-fn tested(
+/// The failing hint of a step after the earlier ones, or none where it is accepted. Makes the
+/// assignment where it was not made yet; no atom is set before and afterwards.
+fn check_step(
     alloc: Global,
-    board: &mut Board,
+    assignment: &mut Assignment,
     problem: &Problem,
     earlier: &[Step],
     clause: &[Lit],
     hints: &[Hint],
 ) -> Result<Option<u32>, AllocError>
     requires few { length hints.now < 2 ^ 32 }
-    requires clear { board.old ≡ replicate (length board.old) None }
-    ensures answer { IfOk result (λ o. o ≡ hint_that_fails problem.now earlier.now (spec.step_of clause.now hints.now)) }
-    ensures clear { board.new ≡ replicate (length board.new) None }
+    requires clear { assignment.old ≡ replicate (length assignment.old) None }
+    ensures answer { IfOk result (λ o.
+        o ≡ hint_that_fails problem.now earlier.now (spec.step_of clause.now hints.now)) }
+    ensures clear { assignment.new ≡ replicate (length assignment.new) None }
 {
-    made(alloc, board, problem.atoms() as usize)?;
-    let fault = failing_hint(board, problem, earlier, clause, hints);
-    board.clear();
+    make_assignment(alloc, assignment, problem.atoms() as usize)?;
+    let fault = failing_hint(assignment, problem, earlier, clause, hints);
+    assignment.clear();
     match fault {
         Some(hint) => Ok(Some(hint as u32)),
         None => Ok(None),
     }
 }
 
-/// Makes the board for so many atoms, if it is not one already.
-fn made(alloc: Global, board: &mut Board, atoms: usize) -> Result<(), AllocError>
-    requires { board.old ≡ replicate (length board.old) None }
-    ensures made { OnOk result (board.new ≡ replicate atoms None) }
-    ensures kept { OnErr result (board.new ≡ board.old) }
+/// Makes the assignment one of so many atoms, if it is not one already.
+fn make_assignment(
+    alloc: Global,
+    assignment: &mut Assignment,
+    atoms: usize,
+) -> Result<(), AllocError>
+    requires { assignment.old ≡ replicate (length assignment.old) None }
+    ensures made { OnOk result (assignment.new ≡ replicate atoms None) }
+    ensures kept { OnErr result (assignment.new ≡ assignment.old) }
 {
-    if board.values().len() == atoms {
+    if assignment.values().len() == atoms {
         return Ok(());
     }
-    *board = Board::unset(alloc, atoms)?;
+    *assignment = Assignment::unset(alloc, atoms)?;
     Ok(())
 }
 
 /// Puts the step behind the others, and answers its number.
-fn pushed(
+fn push_step(
     alloc: Global,
     steps: &mut Vec<Step>,
     clause: &[Lit],
@@ -206,7 +215,8 @@ fn pushed(
 ) -> Result<u32, AllocError>
     requires { length steps.old.items < 2 ^ 32 }
     ensures number { IfOk result (λ n. n ≡ length steps.old.items) }
-    ensures pushed { OnOk result (steps.new.items ≡ steps.old.items ++ spec.step_of clause.now hints.now ∷ []) }
+    ensures pushed { OnOk result
+        (spec.IsPushed steps.old.items steps.new.items clause.now hints.now) }
     ensures few { length steps.new.items < 2 ^ 32 }
     ensures kept { OnErr result (steps.new.items ≡ steps.old.items) }
 {
@@ -214,12 +224,12 @@ fn pushed(
     if number >= u32::MAX as usize {
         return Err(AllocError);
     }
-    steps.push(copied(alloc, clause, hints)?)?;
+    steps.push(copy_step(alloc, clause, hints)?)?;
     Ok(number as u32)
 }
 
 /// The step with this clause and these hints.
-fn copied(alloc: Global, clause: &[Lit], hints: &[Hint]) -> Result<Step, AllocError>
+fn copy_step(alloc: Global, clause: &[Lit], hints: &[Hint]) -> Result<Step, AllocError>
     ensures { IfOk result (λ s. s ≡ spec.step_of clause.now hints.now) }
 {
     Ok(Step {

@@ -7,26 +7,26 @@ use count_core::{Hint, Hints, Step};
 use std::alloc::{AllocError, Global};
 
 /// Copies of the steps, whose hints to steps have the shifted numbers.
-pub(crate) fn shifted_all(
+pub(crate) fn shifted_steps(
     alloc: Global,
     steps: &[Step],
     shift: u32,
 ) -> Result<Vec<Step>, AllocError>
     requires few { length steps.now + shift < 2 ^ 32 }
     requires earlier { AreEarlier steps.now }
-    ensures { IfOk result (λ v. v.items ≡ map (spec.shifted shift) steps.now) }
+    ensures { IfOk result (λ v. v.items ≡ map (spec.shifted_step shift) steps.now) }
 {
     let mut copies = Vec::with_capacity(alloc, steps.len())?;
     for step in steps {
-        copies.push(shifted(alloc, step, shift)?)?;
+        copies.push(shifted_step(alloc, step, shift)?)?;
     }
     Ok(copies)
 }
 
 /// A copy of the step, whose hints to steps are to numbers that can be shifted.
-fn shifted(alloc: Global, step: &Step, shift: u32) -> Result<Step, AllocError>
+fn shifted_step(alloc: Global, step: &Step, shift: u32) -> Result<Step, AllocError>
     requires { AllByRecursion (IsBelow (2 ^ 32 - shift)) step.now.hints }
-    ensures { IfOk result (λ s. s ≡ spec.shifted shift step.now) }
+    ensures { IfOk result (λ s. s ≡ spec.shifted_step shift step.now) }
 {
     let clause = step.clause.clone_in(alloc)?;
     let hints = shifted_hints(alloc, step.hints.as_slice(), shift)?;
@@ -36,6 +36,7 @@ fn shifted(alloc: Global, step: &Step, shift: u32) -> Result<Step, AllocError>
     })
 }
 
+/// The shifted hints, in order.
 fn shifted_hints(alloc: Global, hints: &[Hint], shift: u32) -> Result<Vec<Hint>, AllocError>
     requires { AllByRecursion (IsBelow (2 ^ 32 - shift)) hints.now }
     ensures { IfOk result (λ v. v.items ≡ map (spec.shifted_hint shift) hints.now) }
@@ -47,6 +48,7 @@ fn shifted_hints(alloc: Global, hints: &[Hint], shift: u32) -> Result<Vec<Hint>,
     Ok(copies)
 }
 
+/// A hint to a step gets the shifted number.
 fn shifted_hint(hint: Hint, shift: u32) -> Hint
     requires { IsBelow (2 ^ 32 - shift) hint }
     ensures { result ≡ spec.shifted_hint shift hint }

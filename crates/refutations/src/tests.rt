@@ -6,8 +6,8 @@ use count_core::{
 };
 use std::alloc::Global;
 
-/// Two pots of two teams in two groups; the atom of team i in group k is 2 * i + k. Each team in one
-/// group, in each group one team of each pot, in each group at most one team. No assignment
+/// Two pots of two teams in two groups; the atom of team i in group k is 2 * i + k. Each team in
+/// one group, in each group one team of each pot, in each group at most one team. No assignment
 /// satisfies all ten.
 const CLASH: [(&[u32], u32, u32); 10] = [
     (&[0, 1], 1, 1),
@@ -58,8 +58,8 @@ const NOT_2: Line<'static> = (&[NO_2], &[Hint::Rule(8), Hint::Rule(5)]);
 
 const NOTHING: Line<'static> = (&[], &[Hint::Step(0), Hint::Step(2), Hint::Rule(4)]);
 
-/// The first pot has no team in the first group, so the empty clause. The second pot's first team is
-/// not there either, on which nothing rests.
+/// The first pot has no team in the first group, so the empty clause. The second pot's first team
+/// is not there either, on which nothing rests.
 const STEPS: [Line<'static>; 4] = [NOT_0, NOT_4, NOT_2, NOTHING];
 
 /// The last of them without the spare step.
@@ -188,7 +188,7 @@ fn are(steps: &[Step], lines: &[Line<'_>]) -> bool {
 }
 
 /// Compiles only for values that threads may share.
-fn shared<T: Send + Sync>(value: T) -> T {
+fn share<T: Send + Sync>(value: T) -> T {
     value
 }
 
@@ -203,8 +203,8 @@ fn lemma_of(alloc: Global, log: &ProofLog, step: u32) -> Option<Lemma> {
 
 /// Whether the copied lemma at this step has this clause and these steps, over the log's problem.
 fn lemma_is(alloc: Global, step: u32, clause: &[Lit], lines: &[Line<'_>]) -> Option<bool> {
-    let log = shared(log_of(alloc, &STEPS)?);
-    let lemma = shared(lemma_of(alloc, &log, step)?);
+    let log = share(log_of(alloc, &STEPS)?);
+    let lemma = share(lemma_of(alloc, &log, step)?);
     let same = lemma.problem().equals(log.problem());
     Some(same && lemma.clause() == clause && are(lemma.steps(), lines))
 }
@@ -240,7 +240,7 @@ fn closed_of(alloc: Global, lits: &[Lit]) -> Option<Closed> {
 }
 
 fn closed_is(alloc: Global, lits: &[Lit]) -> Option<bool> {
-    let closed = shared(closed_of(alloc, lits)?);
+    let closed = share(closed_of(alloc, lits)?);
     let atoms = closed.problem().atoms();
     Some(atoms == 8 && closed.question().lits() == lits && are(closed.steps(), &STEPS))
 }
@@ -278,7 +278,7 @@ fn shift_of(alloc: Global, log: &mut ProofLog, other: &ProofLog) -> Option<u32> 
     log.append_all(alloc, other).ok()
 }
 
-fn joined(alloc: Global) -> Option<(u32, bool)> {
+fn join_logs(alloc: Global) -> Option<(u32, bool)> {
     let mut log = log_of(alloc, &[NOT_4])?;
     let other = log_of(alloc, &CONE)?;
     let shift = shift_of(alloc, &mut log, &other)?;
@@ -293,5 +293,5 @@ fn joined(alloc: Global) -> Option<(u32, bool)> {
 
 #[test]
 fn one_log_behind_another(rt: HostRuntime) {
-    assert_eq!(rt; joined(rt.alloc()), Some((1, true)));
+    assert_eq!(rt; join_logs(rt.alloc()), Some((1, true)));
 }

@@ -7,5 +7,5 @@ use Rattle.cert_checker.proofs.checking.first_bad.Given as goal
 abbrev pub invariant-loop-place : goal.invariant-loop-place
 invariant-loop-place l = record {
   rest : first_bad l.problem (take l.place l.steps) (drop l.place l.steps) l.place ≡ first_bad l.problem [] l.steps 0;
-  clean : l.board ≡ replicate l.problem.atoms None;
+  clean : l.assignment ≡ replicate l.problem.atoms None;
 }

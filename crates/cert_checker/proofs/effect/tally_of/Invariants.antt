@@ -1,5 +1,5 @@
 use Rattle.std.proofs.Common.{◌≡◌, ◌≤◌, ◌+◌, take}
-use Rattle.count_core.specs.Partials.{trues, falses}
+use Rattle.count_core.specs.PartialAssignments.{trues, falses}
 use Rattle.cert_checker.proofs.effect.tally_of.Given as goal
 
 abbrev pub invariant-loop-lit : goal.invariant-loop-lit

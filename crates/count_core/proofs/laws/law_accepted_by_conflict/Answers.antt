@@ -1,4 +1,4 @@
-use Rattle.count_core.proofs.Walks.{accepted_by_conflict}
+use Rattle.count_core.proofs.HintChecks.{accepted_by_conflict}
 use Rattle.count_core.proofs.laws.law_accepted_by_conflict.Goals as goal
 
 pub returns : goal.returns

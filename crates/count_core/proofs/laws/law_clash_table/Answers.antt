@@ -1,9 +1,9 @@
 use Rattle.std.proofs.Common.{refl}
-use Rattle.count_core.specs.Partials.{conflicts, forces, forced}
+use Rattle.count_core.specs.PartialAssignments.{conflicts, forces, forced_assignment}
 use Rattle.count_core.proofs.laws.law_clash_table.Goals as goal
 
 pub returns : goal.returns
-unfolding conflicts forces forced
+unfolding conflicts forces forced_assignment
 returns c = record {
   first = refl;
   second = refl;

@@ -1,7 +1,7 @@
 use Rattle.std.proofs.Common.{◌≡◌, ◌≤◌, ◌-◌, ◌+◌, arith, length, get_or, true}
 use Rattle.std.proofs.lemmas.Option.{slice_get-get_or}
 use Rattle.std.proofs.lemmas.List.{length-set}
-use Rattle.refutations.proofs.Naming.{each_more}
+use Rattle.refutations.proofs.EarlierSteps.{each_more}
 use Rattle.refutations.proofs.Marking.{IsMarked, mark_start, mark_next, mark_done}
 use Rattle.refutations.proofs.cone.mark_reached.Goals as goal
 

@@ -1,7 +1,7 @@
 use Rattle.std.proofs.Common.{◌≡◌, sym, subst}
 use Rattle.count_core.specs.Assignments.{Follows}
 use Rattle.refutations.specs.Derivations.{last_clause}
-use Rattle.refutations.proofs.Lasts.{last_follows}
+use Rattle.refutations.proofs.LastSteps.{last_follows}
 use Rattle.refutations.proofs.lemma.Lemma.clause.Goals as goal
 
 pub returns-clause-follows : goal.returns-clause-follows

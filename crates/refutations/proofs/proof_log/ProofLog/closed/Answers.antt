@@ -1,5 +1,5 @@
 use Rattle.std.proofs.Common.{◌<◌, length}
-use Rattle.refutations.proofs.Lasts.{first_refutation}
+use Rattle.refutations.proofs.LastSteps.{first_refutation}
 use Rattle.refutations.proofs.proof_log.ProofLog.closed.Goals as goal
 
 pub of-requires : goal.of-requires

@@ -1,6 +1,6 @@
 use Rattle.std.proofs.Common.{◌<◌, IfOk, length}
 use Rattle.refutations.specs.Cones.{IsCone}
-use Rattle.refutations.proofs.Naming.{accepted_earlier}
+use Rattle.refutations.proofs.EarlierSteps.{accepted_earlier}
 use Rattle.refutations.proofs.Sublists.{cone_lemma, ok_map}
 use Rattle.refutations.proofs.proof_log.ProofLog.cone.Goals as goal
 

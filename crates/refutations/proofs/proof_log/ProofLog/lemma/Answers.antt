@@ -1,5 +1,5 @@
 use Rattle.std.proofs.Common.{◌<◌, length}
-use Rattle.refutations.proofs.Lasts.{first_lemma, last_of_first}
+use Rattle.refutations.proofs.LastSteps.{first_lemma, last_of_first}
 use Rattle.refutations.proofs.proof_log.ProofLog.lemma.Goals as goal
 
 pub of-requires : goal.of-requires

@@ -1,8 +1,0 @@
-use Rattle.std.proofs.Common.{◌≡◌, replicate, None, rules}
-use Rattle.refutations.proofs.Values.{board_clear}
-use Rattle.refutations.proofs.board.Board.unset.Goals as goal
-
-pub invariant_of-result : goal.invariant_of-result
-invariant_of-result c =
-    let items : c.in_ok-values.values.items ≡ replicate c.args.atoms None = search rules in
-    rw (items, c.in_ok-trail.ensures.items) (board_clear _ _ c.in_ok-trail.ensures.capacity)
