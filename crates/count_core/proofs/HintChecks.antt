@@ -2,7 +2,7 @@
 use Rattle.std.proofs.Common.{◌≡◌, ℕ, suc, ◌+◌, ◌<◌, Bool, true, false, cond, List, [], ◌∷◌, length, get_or, drop, drop-cons, add-one, Option, Some, None, refl, sym, ap, arith}
 use Rattle.count_core.specs.declared.count_rule.CountRule.{CountRule}
 use Rattle.count_core.specs.declared.hint.Hint.{Hint}
-use Rattle.count_core.specs.PartialAssignments.{PartialAssignment, conflicts, forces, assign_all, forced_assignment, IsQuiet, ForcesAll}
+use Rattle.count_core.specs.PartialAssignments.{PartialAssignment, conflicts, forces, assign_all, forced_assignment, ForcesAll}
 use Rattle.count_core.specs.Steps.{rule_at, is_last, apply_hint, failing_from, assumed_negation, is_clause, LeadToConflict, IsAccepted}
 use Rattle.count_core.specs.Laws.{AcceptedByConflict}
 
@@ -11,10 +11,6 @@ use Rattle.count_core.specs.Laws.{AcceptedByConflict}
 module _ (find : Hint → Option CountRule) (p : PartialAssignment) (hints : List Hint) (i : ℕ) (d : Hint) (within : i < length hints) (r : CountRule) (found : find (get_or hints i d) ≡ Some r) where
   turn : failing_from find p (drop i hints) i ≡ apply_hint p (Some r) (is_last (drop (suc i) hints)) i (λ q. failing_from find q (drop (suc i) hints) (i + 1))
   turn = rw (drop-cons hints i d) (ap (λ o. apply_hint p o (is_last (drop (suc i) hints)) i (λ q. failing_from find q (drop (suc i) hints) (i + 1))) found)
-
-  -- its rule is quiet: the hint fails
-  pub hint_idle : IsQuiet p r.lits r.lo r.hi → failing_from find p (drop i hints) i ≡ Some i
-  hint_idle quiet = rw (turn, quiet.0, quiet.1)
 
   goes_on : conflicts p r.lits r.lo r.hi ≡ false → forces p r.lits r.lo r.hi ≡ true → failing_from find p (drop i hints) i ≡ failing_from find (forced_assignment p r.lits r.lo r.hi) (drop (i + 1) hints) (i + 1)
   goes_on c f = rw (turn, c, f, add-one)

@@ -1,4 +1,5 @@
 -- problems: which rules make one, and which fault is told of the others
+pub mod Limits
 pub mod Problems
 pub mod FirstFaults
 

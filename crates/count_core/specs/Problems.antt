@@ -1,6 +1,7 @@
 -- Count problems, and which rules make one.
-use Rattle.std.specs.Prelude.{◌≡◌, ◌≢◌, ℕ, ◌+◌, ◌≤◌, ◌<◌, ◌^◌, ◌==◌, ◌&&◌, ◌||◌, Bool, true, false, not, nat_lt, List, [], ◌∷◌, length, Option, Some, None, if◌then◌else◌}
+use Rattle.std.specs.Prelude.{◌≡◌, ◌≢◌, ℕ, ◌+◌, ◌≤◌, ◌<◌, ◌==◌, ◌&&◌, ◌||◌, Bool, true, false, not, nat_lt, List, [], ◌∷◌, length, Option, Some, None, if◌then◌else◌}
 use Rattle.std.specs.List.{list_any, list_all, AllByRecursion}
+use Rattle.count_core.specs.Limits.{number_limit}
 use Rattle.count_core.specs.declared.lit.Lit.{Lit}
 use Rattle.count_core.specs.declared.count_rule.CountRule.{CountRule}
 use Rattle.count_core.specs.declared.faults.CoreFault.{CoreFault}
@@ -41,7 +42,7 @@ pub record IsWellFormedRule (atoms : ℕ) (r : CountRule) : Type 0 where
 -- Each rule is one, and a u32 numbers them.
 pub record IsWellFormed (problem : Problem) : Type 0 where
   pub rules : AllByRecursion (IsWellFormedRule problem.atoms) problem.rules
-  pub few : length problem.rules < 2 ^ 32
+  pub few : length problem.rules < number_limit
 
 -- the first fault of the rule with this number
 abbrev pub fault_of : ℕ → ℕ → CountRule → Option CoreFault

@@ -1,4 +1,5 @@
-ghost use Rattle.std.specs.Prelude.{◌≡◌, ◌+◌, ◌^◌, ◌<◌, ◌≤◌, ℕ, length, true, slice_index, IfOk};
+ghost use Rattle.std.specs.Prelude.{◌≡◌, ◌+◌, ◌<◌, ◌≤◌, ℕ, length, true, slice_index, IfOk};
+ghost use Rattle.count_core.specs.Limits.{number_limit};
 ghost use Rattle.count_core.specs.Problems.{repeats, are_within, fault_of, first_fault};
 
 use crate::count_rule::CountRule;
@@ -25,7 +26,7 @@ pub(crate) fn first_fault(
     atoms: u32,
     rules: &[CountRule],
 ) -> Result<Option<CoreFault>, AllocError>
-    requires few { length rules.now < 2 ^ 32 }
+    requires few { length rules.now < number_limit }
     ensures { IfOk result (λ f. f ≡ first_fault atoms 0 rules.now) }
 {
     let mut marks: Vec<u32> = vec![in alloc; 0; atoms as usize]?;
@@ -35,7 +36,7 @@ pub(crate) fn first_fault(
 /// The first fault of the rules. A mark is one more than the number of the last rule that has its
 /// atom, or 0.
 fn fault_among(marks: &mut [u32], rules: &[CountRule]) -> Option<CoreFault>
-    requires few { length rules.now < 2 ^ 32 }
+    requires few { length rules.now < number_limit }
     requires clear { (k : ℕ) → slice_index marks.old k ≤ 0 }
     ensures { result ≡ first_fault (length marks.old) 0 rules.now }
 {
@@ -50,7 +51,7 @@ fn fault_among(marks: &mut [u32], rules: &[CountRule]) -> Option<CoreFault>
 
 /// The first fault of the rule at a place, where no mark is past the place.
 fn fault_of(marks: &mut [u32], place: u32, rule: &CountRule) -> Option<CoreFault>
-    requires few { place + 1 < 2 ^ 32 }
+    requires few { place + 1 < number_limit }
     requires older { (k : ℕ) → slice_index marks.old k ≤ place }
     ensures fault { result ≡ fault_of (length marks.old) place rule.now }
     ensures marks { (k : ℕ) → slice_index marks.new k ≤ place + 1 }

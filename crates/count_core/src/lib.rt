@@ -18,6 +18,7 @@ mod hints;
 mod laws;
 mod lit;
 mod lits;
+mod number_limit;
 mod problem;
 mod question;
 mod same;
@@ -39,6 +40,7 @@ pub use laws::{
 };
 pub use lit::Lit;
 pub use lits::Lits;
+pub use number_limit::NUMBER_LIMIT;
 pub use problem::{Problem, SharedProblem};
 pub use question::{Question, are_distinct};
 pub use std::alloc::AllocError as NoMemory;

@@ -1,4 +1,5 @@
-ghost use Rattle.std.specs.Prelude.{◌≡◌, ◌<◌, ◌^◌, ◌↔◌, length, None, IfOk, IfErr, IsTrue};
+ghost use Rattle.std.specs.Prelude.{◌≡◌, ◌<◌, ◌↔◌, length, None, IfOk, IfErr, IsTrue};
+ghost use Rattle.count_core.specs.Limits.{number_limit};
 ghost use Rattle.count_core.specs.Problems.{IsWellFormed, IsFirstFaultOrNoMemory, first_fault, problem_of};
 
 use crate::count_rule::CountRule;
@@ -8,9 +9,9 @@ use std::alloc::Global;
 use std::marker::Model;
 use std::sync::Arc;
 
-/// A count problem, well formed by its type: atoms numbered from 0, and fewer than 2^32 rules, each
-/// over different atoms of the problem and with `lo` not above `hi`. Contracts see a record of
-/// `atoms` and `rules`.
+/// A count problem, well formed by its type: atoms numbered from 0, and fewer than `NUMBER_LIMIT`
+/// rules, each over different atoms of the problem and with `lo` not above `hi`. Contracts see a
+/// record of `atoms` and `rules`.
 #[derive(Drop)]
 pub struct Problem {
     atoms: u32,
@@ -34,7 +35,7 @@ impl Problem {
     /// The problem of these atoms and rules. A fault other than `NoMemory` is the first fault of
     /// the first rule that has one, in the order of the faults' numbers.
     pub fn build(alloc: Global, atoms: u32, rules: Vec<CountRule>) -> Result<Problem, CoreFault>
-        requires few { length rules.items < 2 ^ 32 }
+        requires few { length rules.items < number_limit }
         ensures ok { IfOk result (λ p. p ≡ problem_of atoms rules.items) }
         ensures right { IfOk result (λ p. first_fault atoms 0 rules.items ≡ None) }
         ensures fault { IfErr result (λ f. IsFirstFaultOrNoMemory atoms rules.items f) }

@@ -57,15 +57,7 @@ mark_start steps from marks lt none = record {
             let ne : n ≢ from = λ q. (let yes : (n == from) ≡ true = (Decides-eqb n from).1 q in cc) in
             absurd (none n (sym (get_or-set_other marks from n true false ne) ∙ e))
 
--- the step i is not marked
-pub mark_skip : (steps : List Step) (from : ℕ) (marks : List Bool) (i : ℕ) → IsMarked steps from marks (i + 1) → is_in marks i ≡ false → IsMarked steps from marks i
-mark_skip steps from marks i h unmarked = record {
-  sound = h.sound;
-  start = h.start;
-  closed = λ n m le e names. elim (cut i n le) [ inl q ↦ (let e' : is_in marks i ≡ true = rw q at e in cc) | inr more ↦ h.closed n m (omega arith) e names ];
-}
-
--- it is, and what it names is marked too
+-- the step i is marked, and what it names is marked too
 pub mark_next : (steps : List Step) (from : ℕ) (marks new : List Bool) (i : ℕ) (s : Step) → AreEarlier steps → slice_get steps i ≡ Some s → IsMarked steps from marks (i + 1) → is_in marks i ≡ true → AddsNamed marks new s.hints → IsMarked steps from new i
 mark_next steps from marks new i s earlier at h here is = record {
   sound = λ n e. elim (or_cases (is_in marks n) (list_any (is_to n) s.hints) (sym (is n) ∙ e)) [ inl old ↦ h.sound n old | inr any ↦ onward i n (h.sound i here) (s, at, any) ];

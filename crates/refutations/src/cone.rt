@@ -1,5 +1,6 @@
-ghost use Rattle.std.specs.Prelude.{◌≡◌, ◌↔◌, ◌+◌, ◌-◌, ◌^◌, ◌<◌, ◌≤◌, ◌||◌, ℕ, true, length, map, IfOk};
+ghost use Rattle.std.specs.Prelude.{◌≡◌, ◌↔◌, ◌+◌, ◌-◌, ◌<◌, ◌≤◌, ◌||◌, ℕ, true, length, map, IfOk};
 ghost use Rattle.std.specs.List.{AllByRecursion};
+ghost use Rattle.count_core.specs.Limits.{number_limit};
 ghost use Rattle.refutations.specs.Earlier.{IsBelow, AreEarlier, ArePlaces, by_place, by_places};
 ghost use Rattle.refutations.specs.Cones as spec;
 
@@ -9,7 +10,7 @@ use std::alloc::{AllocError, Global};
 /// The cone of a step: the steps that it reaches by hints, in their order, renumbered.
 pub(crate) fn cone_of(alloc: Global, steps: &[Step], from: usize) -> Result<Vec<Step>, AllocError>
     requires within { from < length steps.now }
-    requires few { length steps.now < 2 ^ 32 }
+    requires few { length steps.now < number_limit }
     requires earlier { AreEarlier steps.now }
     ensures { IfOk result (λ v. spec.IsCone steps.now from v.items) }
 {
@@ -59,7 +60,7 @@ fn mark(marks: &mut [bool], hint: Hint)
 
 /// For each step its place among those marked: how many before it are.
 fn places_of(alloc: Global, marks: &[bool]) -> Result<Vec<u32>, AllocError>
-    requires { length marks.now < 2 ^ 32 }
+    requires { length marks.now < number_limit }
     ensures { IfOk result (λ v. ArePlaces marks.now v.items) }
 {
     let mut places = Vec::with_capacity(alloc, marks.len())?;

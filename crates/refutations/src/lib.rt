@@ -2,9 +2,9 @@
 //! steps on which one step rests.
 //!
 //! What an accepted step is, `count_core` says. A `ProofLog` takes a step only where it is
-//! accepted, by this crate's own check of its hints: the negation of the clause is assumed, and each
-//! hint's rule or clause is counted under what is set by then. A step costs what its hints touch: what was
-//! set is noted on a trail, and unset by it.
+//! accepted, by this crate's own check of its hints: the negation of the clause is assumed, and
+//! each hint's rule or clause is counted under what is set by then. A step costs what its hints
+//! touch: what was set is noted on a trail, and unset by it.
 //!
 //! A call that is given an allocator may run out of memory, and reports it, but `ProofLog::new`,
 //! which takes none; every other call takes none either.

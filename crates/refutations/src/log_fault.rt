@@ -5,6 +5,6 @@ pub enum LogFault {
     /// the number of hints where the last one only forces, or 0 where there is no hint or the
     /// clause has an atom out of range or one atom twice.
     NotAccepted { hint: u32 },
-    /// 2: out of memory, or a log with 2^32 - 1 steps.
+    /// 2: out of memory, or a log with `NUMBER_LIMIT` - 1 steps.
     NoMemory,
 }

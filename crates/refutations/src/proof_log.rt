@@ -1,5 +1,6 @@
-ghost use Rattle.std.specs.Prelude.{◌≡◌, ◌+◌, ◌^◌, ◌<◌, ◌⊎◌, [], ℕ, length, take, replicate, None, IfOk, IfErr, OnOk, OnErr, IsErrOf};
+ghost use Rattle.std.specs.Prelude.{◌≡◌, ◌+◌, ◌<◌, ◌⊎◌, [], ℕ, length, take, replicate, None, IfOk, IfErr, OnOk, OnErr, IsErrOf};
 ghost use Rattle.std.specs.Arc.{arc_value};
+ghost use Rattle.count_core.specs.Limits.{number_limit};
 ghost use Rattle.count_core.specs.Steps.{AreAccepted, NegatesOnly, failing_hint as hint_that_fails};
 ghost use Rattle.refutations.specs.Derivations as spec;
 ghost use Rattle.refutations.specs.Shifts.{ArePutBehind};
@@ -12,14 +13,17 @@ use crate::hint_check::failing_hint;
 use crate::lemma::Lemma;
 use crate::log_fault::LogFault;
 use crate::shift::shifted_steps;
-use count_core::{Hint, Hints, Lit, Lits, NoMemory, Problem, Question, SharedProblem, Step, Steps};
+use count_core::{
+    Hint, Hints, Lit, Lits, NUMBER_LIMIT, NoMemory, Problem, Question, SharedProblem, Step,
+    Steps,
+};
 use std::alloc::{AllocError, Global};
 use std::marker::Model;
 use std::sync::Arc;
 
 /// A list of steps over a problem, numbered from 0, which is accepted by its type: each step is
-/// accepted after those before it. It has fewer than 2^32 steps. Contracts see a record of
-/// `problem`, its value, and `steps`.
+/// accepted after those before it. It has fewer than `NUMBER_LIMIT` steps. Contracts see a record
+/// of `problem`, its value, and `steps`.
 #[derive(Drop)]
 pub struct ProofLog {
     problem: SharedProblem,
@@ -62,15 +66,15 @@ impl ProofLog {
     pub fn steps(&self) -> &[Step]
         ensures steps { result.now ≡ self.now.steps }
         ensures accepted { AreAccepted self.now.problem self.now.steps }
-        ensures few { length self.now.steps < 2 ^ 32 }
+        ensures few { length self.now.steps < number_limit }
     {
         self.steps.as_slice()
     }
 
     /// Adds a step at the end and answers its number, where it is accepted after the steps so far;
-    /// otherwise the log stays as it is. There are fewer than 2^32 hints.
+    /// otherwise the log stays as it is. There are fewer than `NUMBER_LIMIT` hints.
     pub fn add(&mut self, alloc: Global, clause: &[Lit], hints: &[Hint]) -> Result<u32, LogFault>
-        requires few { length hints.now < 2 ^ 32 }
+        requires few { length hints.now < number_limit }
         ensures number { IfOk result (λ n. n ≡ length self.old.steps) }
         ensures added { OnOk result
             (spec.IsPushed self.old.steps self.new.steps clause.now hints.now) }
@@ -83,7 +87,7 @@ impl ProofLog {
             → IfErr result (λ e. (e ≡ LogFault.NotAccepted n) ⊎ (e ≡ LogFault.NoMemory)) }
         ensures taken { spec.Accepts self.old clause.now hints.now
             → IfErr result (λ e. e ≡ LogFault.NoMemory) }
-        ensures room { OnOk result (length self.new.steps < 2 ^ 32) }
+        ensures room { OnOk result (length self.new.steps < number_limit) }
         ensures kept { OnErr result (self.new ≡ self.old) }
     {
         let Ok(fault) = check_step(
@@ -140,11 +144,11 @@ impl ProofLog {
         ensures shift { IfOk result (λ n. n ≡ length self.old.steps) }
         ensures steps { OnOk result (ArePutBehind self.old.steps self.new.steps other.now.steps) }
         ensures problem { self.new.problem ≡ self.old.problem }
-        ensures room { OnOk result (length self.new.steps < 2 ^ 32) }
+        ensures room { OnOk result (length self.new.steps < number_limit) }
         ensures kept { OnErr result (self.new ≡ self.old) }
     {
         let shift = self.steps.len();
-        if other.steps.len() > u32::MAX as usize - shift {
+        if other.steps.len() >= NUMBER_LIMIT - shift {
             return Err(AllocError);
         }
         let mut steps = shifted_steps(alloc, other.steps.as_slice(), shift as u32)?;
@@ -174,7 +178,7 @@ fn check_step(
     clause: &[Lit],
     hints: &[Hint],
 ) -> Result<Option<u32>, AllocError>
-    requires few { length hints.now < 2 ^ 32 }
+    requires few { length hints.now < number_limit }
     requires clear { assignment.old ≡ replicate (length assignment.old) None }
     ensures answer { IfOk result (λ o.
         o ≡ hint_that_fails problem.now earlier.now (spec.step_of clause.now hints.now)) }
@@ -213,15 +217,15 @@ fn push_step(
     clause: &[Lit],
     hints: &[Hint],
 ) -> Result<u32, AllocError>
-    requires { length steps.old.items < 2 ^ 32 }
+    requires { length steps.old.items < number_limit }
     ensures number { IfOk result (λ n. n ≡ length steps.old.items) }
     ensures pushed { OnOk result
         (spec.IsPushed steps.old.items steps.new.items clause.now hints.now) }
-    ensures few { length steps.new.items < 2 ^ 32 }
+    ensures few { length steps.new.items < number_limit }
     ensures kept { OnErr result (steps.new.items ≡ steps.old.items) }
 {
     let number = steps.len();
-    if number >= u32::MAX as usize {
+    if number + 1 >= NUMBER_LIMIT {
         return Err(AllocError);
     }
     steps.push(copy_step(alloc, clause, hints)?)?;

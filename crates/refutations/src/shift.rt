@@ -1,5 +1,6 @@
-ghost use Rattle.std.specs.Prelude.{◌≡◌, ◌+◌, ◌-◌, ◌^◌, ◌<◌, length, map, IfOk};
+ghost use Rattle.std.specs.Prelude.{◌≡◌, ◌+◌, ◌-◌, ◌<◌, length, map, IfOk};
 ghost use Rattle.std.specs.List.{AllByRecursion};
+ghost use Rattle.count_core.specs.Limits.{number_limit};
 ghost use Rattle.refutations.specs.Earlier.{IsBelow, AreEarlier};
 ghost use Rattle.refutations.specs.Shifts as spec;
 
@@ -12,7 +13,7 @@ pub(crate) fn shifted_steps(
     steps: &[Step],
     shift: u32,
 ) -> Result<Vec<Step>, AllocError>
-    requires few { length steps.now + shift < 2 ^ 32 }
+    requires few { length steps.now + shift < number_limit }
     requires earlier { AreEarlier steps.now }
     ensures { IfOk result (λ v. v.items ≡ map (spec.shifted_step shift) steps.now) }
 {
@@ -25,7 +26,7 @@ pub(crate) fn shifted_steps(
 
 /// A copy of the step, whose hints to steps are to numbers that can be shifted.
 fn shifted_step(alloc: Global, step: &Step, shift: u32) -> Result<Step, AllocError>
-    requires { AllByRecursion (IsBelow (2 ^ 32 - shift)) step.now.hints }
+    requires { AllByRecursion (IsBelow (number_limit - shift)) step.now.hints }
     ensures { IfOk result (λ s. s ≡ spec.shifted_step shift step.now) }
 {
     let clause = step.clause.clone_in(alloc)?;
@@ -38,7 +39,7 @@ fn shifted_step(alloc: Global, step: &Step, shift: u32) -> Result<Step, AllocErr
 
 /// The shifted hints, in order.
 fn shifted_hints(alloc: Global, hints: &[Hint], shift: u32) -> Result<Vec<Hint>, AllocError>
-    requires { AllByRecursion (IsBelow (2 ^ 32 - shift)) hints.now }
+    requires { AllByRecursion (IsBelow (number_limit - shift)) hints.now }
     ensures { IfOk result (λ v. v.items ≡ map (spec.shifted_hint shift) hints.now) }
 {
     let mut copies = Vec::with_capacity(alloc, hints.len())?;
@@ -50,7 +51,7 @@ fn shifted_hints(alloc: Global, hints: &[Hint], shift: u32) -> Result<Vec<Hint>,
 
 /// A hint to a step gets the shifted number.
 fn shifted_hint(hint: Hint, shift: u32) -> Hint
-    requires { IsBelow (2 ^ 32 - shift) hint }
+    requires { IsBelow (number_limit - shift) hint }
     ensures { result ≡ spec.shifted_hint shift hint }
 {
     match hint {
