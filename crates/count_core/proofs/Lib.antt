@@ -2,7 +2,6 @@
 
 -- tests, facts of each element, counts, and a list written back
 pub mod Lists
-
 -- ---- problems
 
 -- literals gone through with a mark at each atom: where two are over one atom
@@ -11,7 +10,6 @@ pub mod Marks
 pub mod Rules
 -- the fault that is told is the first
 pub mod FirstFaults
-
 -- ---- partial assignments
 
 -- the value of an atom, and literals made true or false
@@ -24,7 +22,6 @@ pub mod AssumedNegations
 pub mod RuleEffects
 -- assignments that extend a partial one
 pub mod Agreement
-
 -- ---- steps
 
 -- hints checked one by one, and acceptance as a whole
@@ -35,7 +32,6 @@ pub mod FailingHints
 pub mod Soundness
 -- accepted lists taken apart, put together and renumbered
 pub mod Renumbering
-
 -- ---- questions
 
 -- a problem with a question is satisfiable or not

@@ -7,30 +7,14 @@ use crate::lit::Lit;
 pub(crate) fn same_lits(one: &[Lit], other: &[Lit]) -> bool
     ensures { IsTrue result ↔ (one.now ≡ other.now) }
 {
-    if one.len() != other.len() {
-        return false;
-    }
-    for k in 0..one.len() {
-        if one[k] != other[k] {
-            return false;
-        }
-    }
-    true
+    one == other
 }
 
 /// Whether the rules are the same, in the same order.
 pub(crate) fn same_rules(one: &[CountRule], other: &[CountRule]) -> bool
     ensures { IsTrue result ↔ (one.now ≡ other.now) }
 {
-    if one.len() != other.len() {
-        return false;
-    }
-    for k in 0..one.len() {
-        if !same_rule(&one[k], &other[k]) {
-            return false;
-        }
-    }
-    true
+    one.len() == other.len() && one.iter().zip(other).all(|(x, y)| same_rule(x, y))
 }
 
 fn same_rule(one: &CountRule, other: &CountRule) -> bool
