@@ -1,9 +1,7 @@
 -- ---- lists
-
 -- tests, facts of each element, counts, and a list written back
 pub mod Lists
 -- ---- problems
-
 -- literals gone through with a mark at each atom: where two are over one atom
 pub mod Marks
 -- which rules make a problem, and their literals' atoms by places
@@ -11,7 +9,6 @@ pub mod Rules
 -- the fault that is told is the first
 pub mod FirstFaults
 -- ---- partial assignments
-
 -- the value of an atom, and literals made true or false
 pub mod Assigning
 -- what was set, noted on a trail and unset again
@@ -23,7 +20,6 @@ pub mod RuleEffects
 -- assignments that extend a partial one
 pub mod Agreement
 -- ---- steps
-
 -- hints checked one by one, and acceptance as a whole
 pub mod HintChecks
 -- the failing hint that is told of a step is its failing hint
@@ -33,6 +29,5 @@ pub mod Soundness
 -- accepted lists taken apart, put together and renumbered
 pub mod Renumbering
 -- ---- questions
-
 -- a problem with a question is satisfiable or not
 pub mod Decisions

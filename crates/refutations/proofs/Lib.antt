@@ -1,14 +1,11 @@
 -- ---- lists of steps
-
 -- the last step, and the lemmas and refutations that begin a log
 pub mod LastSteps
 -- in an accepted list each hint names a rule or an earlier step
 pub mod EarlierSteps
 -- accepted steps put behind others, with shifted hints
 pub mod Shifting
-
 -- ---- cones
-
 -- marks of the steps that a step reaches, set from the last step down
 pub mod Marking
 -- the steps of a set that is closed under hints, renumbered

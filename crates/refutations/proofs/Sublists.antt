@@ -1,7 +1,7 @@
 -- The steps of a set that is closed under hints: renumbered, they are accepted.
 use Rattle.std.proofs.Common.{◌≡◌, ℕ, zero, suc, ◌+◌, ◌-◌, ◌≤◌, ◌<◌, Bool, true, false, cond, List, [], ◌∷◌, ◌++◌, length, take, drop, refl, sym, ap, ◌∙◌, arith, Some, slice_get, subst}
 use Rattle.std.proofs.Common.{Result, Ok, Err, IfOk}
-use Rattle.std.specs.Prelude.{map, count_by, ◌||◌, ◌==◌}
+use Rattle.std.specs.Prelude.{map, count_by, ◌==◌}
 use Rattle.std.specs.List.{list_any, AllByRecursion as Each}
 use Rattle.std.proofs.lemmas.List.{take-append-le, length-append, append-nil, append_assoc}
 use Rattle.std.proofs.lemmas.Bool.Decides.{Decides-eqb}

@@ -14,8 +14,7 @@ use crate::lemma::Lemma;
 use crate::log_fault::LogFault;
 use crate::shift::shifted_steps;
 use count_core::{
-    Hint, Hints, Lit, Lits, NUMBER_LIMIT, NoMemory, Problem, Question, SharedProblem, Step,
-    Steps,
+    Hint, Hints, Lit, Lits, NUMBER_LIMIT, NoMemory, Problem, Question, SharedProblem, Step, Steps,
 };
 use std::alloc::{AllocError, Global};
 use std::marker::Model;

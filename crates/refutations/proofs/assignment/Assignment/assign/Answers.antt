@@ -1,5 +1,5 @@
 use Rattle.std.proofs.Common.{◌∙◌, sym, arith}
-use Rattle.count_core.proofs.Trails.{trail_room, trail_set, free_within, free_unset, free_assign}
+use Rattle.count_core.proofs.Trails.{trail_room, trail_set, free_within, free_unset}
 use Rattle.refutations.proofs.assignment.Assignment.assign.Goals as goal
 
 pub unwrap-requires : goal.unwrap-requires
