@@ -12,7 +12,11 @@ abbrev pub unless : {A : Type 0} → Option FileFault → Result A FileFault →
 unless (Some fault) rest = Err fault
 unless None rest = rest
 
--- the call answers what is said, but for want of memory
+-- the fault is what is said, unless it is that memory ran out
+abbrev pub Tells : {A : Type 0} → FileFault → Result A FileFault → Type 0
+Tells fault said = fault ≢ FileFault.NoMemory → said ≡ Err fault
+
+-- the call answers what is said, unless memory ran out
 abbrev pub Gives : {A : Type 0} → Result A FileFault → Result A FileFault → Type 0
 Gives (Ok a) said = said ≡ Ok a
-Gives (Err fault) said = fault ≢ FileFault.NoMemory → said ≡ Err fault
+Gives (Err fault) said = Tells fault said

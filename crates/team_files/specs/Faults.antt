@@ -110,7 +110,7 @@ too_many_of teams pairs =
 abbrev pub HasTooMany : Data → Field → ℕ → Type 0
 HasTooMany d what number = too_many_of (length (team_values d)) (length (pair_values d)) ≡ Some (FileFault.TooMany what number)
 
--- ---- 7 BadCode: the first team whose code is none
+-- ---- 7 BadCode: the first team whose code is not a code
 
 abbrev pub HasBadCode : Data → ℕ → Type 0
 HasBadCode d place = position (λ code. not (is_code code)) (codes_in d) ≡ Some place
@@ -147,7 +147,7 @@ HoldsWrong d Field.Kind = HasWrongKind d
 HoldsWrong d member = HasWrongField d member
 
 -- When a fault holds of a value, whatever other faults hold of it. NotJson is told of bytes that are no value, BadPair of
--- a head's pairs, UnknownTag and BadPlace of other kinds, and want of memory of no value.
+-- a head's pairs, UnknownTag and BadPlace of other kinds, and NoMemory of no value.
 abbrev pub Holds : Data → FileFault → Type 0
 Holds d FileFault.NotJson = ⊥
 Holds d FileFault.NotObject = IsNotObject d

@@ -30,6 +30,18 @@ pub record Head : Type 0 where
   pub pairs : List HeadPair
   pub places : List HeadPlace
 
+-- the head with these members
+abbrev pub head_from : Kind → ℕ → ℕ → List Team → List HeadLimit → List HeadPair → List HeadPlace → Head
+head_from kind groups pots teams limits pairs places = record {
+  kind = kind;
+  groups = groups;
+  pots = pots;
+  teams = teams;
+  limits = limits;
+  pairs = pairs;
+  places = places;
+}
+
 -- ---- 1 NotJson
 
 -- The bytes are read as one JSON value.
@@ -40,6 +52,10 @@ pub record IsJson (bytes : List ℕ) (d : Data) : Type 0 where
 -- The bytes are not read as one JSON value.
 abbrev pub IsNotJson : List ℕ → Type 0
 IsNotJson bytes = IsUtf8 bytes → read bytes ≡ None
+
+-- The fault is NotJson, and the bytes are not read as one JSON value.
+abbrev pub IsJsonFault : List ℕ → FileFault → Type 0
+IsJsonFault bytes fault = (fault ≡ FileFault.NotJson) × IsNotJson bytes
 
 -- ---- 2 NotObject
 
@@ -178,7 +194,7 @@ too_many_fault fields =
     if nat_lt most_teams (length fields.teams) then Some (FileFault.TooMany Field.Teams (length fields.teams)) else (
     if nat_lt most_pairs (length fields.pairs) then Some (FileFault.TooMany Field.Pairs (length fields.pairs)) else None)
 
--- ---- 7 BadCode: the teams, or the first one whose code is none, counted from i
+-- ---- 7 BadCode: the teams, or the first one whose code is not a code, counted from i
 
 -- where there is no name, the code stands for it
 abbrev pub name_of : List ℕ → Option (List ℕ) → List ℕ
@@ -204,6 +220,10 @@ same_code_from earlier (t ∷ ts) = if is_some (find_from t.code earlier 0) then
 abbrev pub same_code_fault : List Team → Option FileFault
 same_code_fault teams = same_code_from [] teams
 
+-- the teams with their codes, or the first fault of these
+abbrev pub teams_of : List TeamFields → Result (List Team) FileFault
+teams_of all = after (teams_from 0 all) (λ teams. unless (same_code_fault teams) (Ok teams))
+
 -- ---- 9 PotSize
 
 abbrev pub pot_size : ℕ → List Team → ℕ
@@ -219,7 +239,8 @@ pot_size_fault Kind.Pairing teams =
 
 -- the head with these members, and these teams made of them
 abbrev pub head_with : Kind → HeadFields → List Team → Head
-head_with kind fields teams = record { kind = kind; groups = fields.groups; pots = fields.pots; teams = teams; limits = fields.limits; pairs = fields.pairs; places = fields.places }
+head_with kind fields teams =
+    head_from kind fields.groups fields.pots teams fields.limits fields.pairs fields.places
 
 abbrev pub head_of : Data → Result Head FileFault
 head_of d =
@@ -243,4 +264,5 @@ IsHead bytes head = (d : Data) × IsJson bytes d × (head_of d ≡ Ok head)
 
 -- The bytes are no head, and this is their first fault.
 abbrev pub IsHeadFault : List ℕ → FileFault → Type 0
-IsHeadFault bytes fault = ((fault ≡ FileFault.NotJson) × IsNotJson bytes) ⊎ ((d : Data) × IsJson bytes d × (head_of d ≡ Err fault))
+IsHeadFault bytes fault =
+    IsJsonFault bytes fault ⊎ ((d : Data) × IsJson bytes d × (head_of d ≡ Err fault))

@@ -11,6 +11,7 @@ use Rattle.team_files.specs.contracts.code.CodePartialEq.TheImpl.{eq-value}
 use Rattle.team_files.specs.declared.fault.FileFault.{FileFault}
 use Rattle.team_files.specs.declared.team.Team.{Team}
 use Rattle.team_files.specs.declared.team_id.TeamId.{TeamId}
+use Rattle.team_files.specs.Codes.{codes_of}
 use Rattle.team_files.specs.Teams.{find_from, find}
 use Rattle.team_files.specs.Heads.{same_code_from}
 
@@ -20,10 +21,6 @@ same x y =
     let d = bytes_eq-Decides x y in
     let e = bytes_eq-Decides y x in
     one_answer (bytes_eq x y) (bytes_eq y x) d ((λ h. sym (e.0 h)), λ h. e.1 (sym h))
-
--- the codes of teams
-abbrev pub codes_of : List Team → List (List ℕ)
-codes_of teams = map (λ t. t.code) teams
 
 -- ---- the place of a code
 
@@ -54,6 +51,7 @@ place_from code [] i = refl
 place_from code (t ∷ ts) i =
     rw (same code t.code) (place_step (bytes_eq t.code code) (position_or_len (eq-value.it code) (codes_of ts)) (length (codes_of ts)) i (find_from code ts (i + 1)) (place_from code ts (i + 1)))
 
+-- the place of the code in the set is that of the first team with it
 pub found : (code : List ℕ) (keys : List (List ℕ)) (ts : List Team) (place : Option ℕ)
     → keys ≡ codes_of ts → place ≡ position (eq-value.it code) keys → option_map (λ k. record { 0 = k }) place ≡ find code ts
 found code keys ts place e p = rw p (rw e (go (nat_lt (position_or_len (eq-value.it code) (codes_of ts)) (length (codes_of ts))) (position_or_len (eq-value.it code) (codes_of ts)) (place_from code ts 0)))
@@ -68,6 +66,7 @@ any_step : (b c : Bool) (i : ℕ) (rest : Option TeamId) → c ≡ is_some rest 
 any_step true c i rest h = refl
 any_step false c i rest h = h
 
+-- the set has the code exactly where some team has it
 pub any_from : (code : List ℕ) (ts : List Team) (i : ℕ) → list_any (eq-value.it code) (codes_of ts) ≡ is_some (find_from code ts i)
 any_from code [] i = refl
 any_from code (t ∷ ts) i = rw (same code t.code) (any_step (bytes_eq t.code code) (list_any (eq-value.it code) (codes_of ts)) i (find_from code ts (i + 1)) (any_from code ts (i + 1)))
@@ -98,6 +97,7 @@ module _ (ts : List Team) (i : ℕ) (t : Team) (keys : List (List ℕ)) (is_new 
       go true n = cc
       go false n = rw (take_more ts i t within) (rw (← at) (rw (map-append (λ u. u.code) (take i ts) (t ∷ [])) (rw so_far refl)))
 
+  -- so no fault is told of this team
   pub goes_on : is_new ≡ true → same_code_from (take (i + 1) ts) (drop (i + 1) ts) ≡ same_code_from (take i ts) (drop i ts)
   goes_on new = sym (unfolded ∙ go (list_any (eq-value.it t.code) keys) has (sym told ∙ new))
     where
