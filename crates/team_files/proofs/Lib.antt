@@ -5,13 +5,11 @@ pub mod CodeTexts
 pub mod CodeSets
 -- finding a code, and the first code that stands twice, in the subject's own words
 pub mod CodeLaws
-
 -- ---- reading
 -- the elements of a list of values
 pub mod Elements
 -- the members of the teams, read one team at a time
 pub mod TeamReading
-
 -- ---- heads and their faults
 -- a head that was read: what each step gave, and that it has no fault
 pub mod HeadLaws

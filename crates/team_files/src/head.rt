@@ -38,7 +38,7 @@ impl Model for Head {
     } };
 
     ghost invariant = { λ h.
-      spec.IsReadHead (spec.head_from h.kind h.groups h.pots h.teams h.limits h.pairs h.places) };
+        spec.IsReadHead (spec.head_from h.kind h.groups h.pots h.teams h.limits h.pairs h.places) };
 }
 
 impl Head {

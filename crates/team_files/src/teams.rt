@@ -30,7 +30,7 @@ impl Model for Teams {
     ghost view = { λ t. t.teams.items };
 
     ghost invariant = { λ t.
-      AreTeams t.teams.items × (t.codes.keys ≡ map (λ team. team.code) t.teams.items) };
+        AreTeams t.teams.items × (t.codes.keys ≡ map (λ team. team.code) t.teams.items) };
 }
 
 impl Teams {
