@@ -8,7 +8,7 @@ use Rattle.draw_tables.specs.declared.table.Table.{Table}
 use Rattle.draw_tables.specs.declared.table.Table.TheVariants.{Pairs}
 use Rattle.draw_tables.specs.Pairings.{GivesOpponent}
 use Rattle.draw_tables.specs.Tables.{IsLegal}
-use Rattle.draw_tables.specs.Pots.{IsAmong}
+use Rattle.draw_tables.specs.Lists.{IsAmong}
 use Rattle.draw_tables.specs.States.{candidates, IsMoveOf, IsCandidateMove}
 
 -- the table agrees with the move; a drawn ball says nothing of the table

@@ -6,7 +6,10 @@ use Rattle.team_files.specs.declared.team.Team.{Team}
 use Rattle.team_files.specs.declared.team_id.TeamId.{TeamId}
 use Rattle.rule_sets.specs.declared.pair.Pair.{Pair}
 use Rattle.rule_sets.specs.Files.{DrawFile}
-use Rattle.draw_tables.specs.Pots.{winners, runners_up, IsTeam, IsAmong}
+use Rattle.draw_tables.specs.declared.pair_rule.PairRule.{PairRule}
+use Rattle.draw_tables.specs.declared.pair_rule.PairRule.TheVariants.{Letters, Tags, Forbidden}
+use Rattle.draw_tables.specs.Lists.{IsAmong}
+use Rattle.draw_tables.specs.Pots.{winners, runners_up, IsTeam}
 
 -- the teams come from one first-round group
 abbrev pub have_same_letter : Team → Team → Bool
@@ -45,16 +48,24 @@ pub record IsLegalPairing (file : DrawFile) (table : List TeamId) : Type 0 where
   -- 4. no pair is forbidden
   pub forbidden : (r w : TeamId) → GivesOpponent file table r w → is_forbidden file r w ≡ false
 
--- ---- which teams no rule forbids directly to meet
+-- ---- rules 2 to 4 for one pair
 
-abbrev pub may_meet_as : Option Team → Option Team → Bool
-may_meet_as None b = false
-may_meet_as (Some a) None = false
-may_meet_as (Some a) (Some b) = not (have_same_letter a b) && not (have_common_tag a b)
+-- the test holds of the two teams
+abbrev pub both : (Team → Team → Bool) → Option Team → Option Team → Bool
+both test None b = false
+both test (Some a) None = false
+both test (Some a) (Some b) = test a b
 
--- rules 2 to 4 for one pair
+-- a runner-up and a winner break the rule
+abbrev pub breaks : DrawFile → PairRule → TeamId → TeamId → Bool
+breaks file Letters r w = both have_same_letter (slice_get file.teams r.0) (slice_get file.teams w.0)
+breaks file Tags r w = both have_common_tag (slice_get file.teams r.0) (slice_get file.teams w.0)
+breaks file Forbidden r w = is_forbidden file r w
+
+-- no rule forbids the two directly to meet: they break none of rules 2 to 4
 abbrev pub may_meet : DrawFile → TeamId → TeamId → Bool
-may_meet file r w = may_meet_as (slice_get file.teams r.0) (slice_get file.teams w.0) && not (is_forbidden file r w)
+may_meet file r w =
+    (not (breaks file Letters r w) && not (breaks file Tags r w)) && not (breaks file Forbidden r w)
 
 -- A runner-up and a winner keep rules 2 to 4.
 pub record KeepRules (file : DrawFile) (r w : TeamId) : Type 0 where

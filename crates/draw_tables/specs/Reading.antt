@@ -1,5 +1,5 @@
 -- What reading a table's text finds, item by item. These serve the proofs; the text itself stands in TableTexts.
-use Rattle.std.specs.Prelude.{ℕ, zero, suc, ◌==◌, if◌then◌else◌, List, [], ◌∷◌, take, drop, Option, Some, None, option_and_then, option_map}
+use Rattle.std.specs.Prelude.{◌≡◌, ℕ, zero, suc, ◌==◌, if◌then◌else◌, List, [], ◌∷◌, ◌++◌, take, drop, Option, Some, None, option_and_then, option_map}
 use Rattle.team_files.specs.declared.team.Team.{Team}
 use Rattle.team_files.specs.declared.team_id.TeamId.{TeamId}
 use Rattle.team_files.specs.Characters.{is_code}
@@ -27,3 +27,7 @@ spaced_teams teams (suc n) bytes = option_and_then (λ t. option_map (λ ts. t �
 -- a team and so many more
 abbrev pub teams_in : List Team → ℕ → List ℕ → Option (List TeamId)
 teams_in teams more bytes = option_and_then (λ t. option_map (λ ts. t ∷ ts) (spaced_teams teams more (drop 3 bytes))) (front_team teams bytes)
+
+-- the teams that were found stand behind the old ones
+abbrev pub AddsTeams : List TeamId → Option (List TeamId) → List TeamId → Type 0
+AddsTeams old found new = option_map (λ ts. old ++ ts) found ≡ Some new

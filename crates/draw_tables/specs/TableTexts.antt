@@ -34,6 +34,10 @@ pub record IsTextOfPairs (file : DrawFile) (winners : List TeamId) (bytes : List
 abbrev pub IsTextOf : DrawFile → Table → List ℕ → Type 0
 IsTextOf file (Pairs pairs) bytes = IsTextOfPairs file pairs.winners bytes
 
+-- The bytes are the text of no table of the file.
+abbrev pub IsTextOfNone : DrawFile → List ℕ → Type 0
+IsTextOfNone file bytes = (table : Table) → ¬ IsTextOf file table bytes
+
 -- ---- law
 
 -- Two tables of a file with one text are equal.

@@ -10,7 +10,7 @@ use crate::pots::teams_of_pot;
 use rule_sets::DrawFile;
 use std::alloc::Global;
 
-/// The candidates of the phase after the moves, in order. The only error is want of memory.
+/// The candidates of the phase after the moves, in order.
 pub fn candidates(alloc: Global, file: &DrawFile, moves: &[Move]) -> Result<Vec<Choice>, NoMemory>
     ensures candidates { IfOk result (λ choices. choices.items ≡ candidates file.now moves.now) }
     ensures of_file { IfOk result (λ choices. AreFileChoices file.now choices.items) }

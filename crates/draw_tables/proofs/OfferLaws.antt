@@ -3,9 +3,10 @@ use Rattle.std.proofs.Common.{◌≡◌, ℕ, zero, suc, ◌++◌, ◌⊎◌, in
 use Rattle.rule_sets.specs.Files.{DrawFile}
 use Rattle.draw_tables.specs.declared.moves.Move.{Move}
 use Rattle.draw_tables.specs.declared.moves.Choice.{Choice}
-use Rattle.draw_tables.specs.Pots.{IsAmong}
+use Rattle.draw_tables.specs.Lists.{IsAmong}
 use Rattle.draw_tables.specs.States.{phase_of, candidates, move_in, IsMoveOf, IsCandidateMove}
 use Rattle.draw_tables.specs.Offers.{IsCompletable, IsPossible, Picks, IsOffer, OneOffer, OfferedWherePossible, OfferWhereDecided}
+use Rattle.draw_tables.proofs.Lists.{none_among}
 
 -- ---- lists
 
@@ -20,13 +21,6 @@ picks_once P (x ∷ xs) os qs (inr h) (inl g) = absurd (h.0 g.0)
 picks_once P (x ∷ xs) os qs (inr h) (inr g) = picks_once P xs os qs h.1 g.1
 
 module _ {A : Type 0} (P : A → Type 0) (x : A) where
-  -- nothing stands in the empty list
-  none_in : IsAmong [] x → ⊥
-  none_in h = at h.0 h.1
-    where
-      at : (k : ℕ) → slice_get [] k ≡ Some x → ⊥
-      at k e = cc
-
   -- an item of one more: it is the first, or one of the rest
   of_more : (y : A) (xs os : List A) → P y → (IsAmong os x → P x × IsAmong xs x) → (k : ℕ) → slice_get (y ∷ os) k ≡ Some x → P x × IsAmong (y ∷ xs) x
   of_more y xs os holds later zero e = let same : y ≡ x = cc in (subst P same holds, (0, e))
@@ -34,7 +28,7 @@ module _ {A : Type 0} (P : A → Type 0) (x : A) where
 
   -- What is picked has the property and is of the list.
   pub picked : (xs os : List A) → Picks P xs os → IsAmong os x → P x × IsAmong xs x
-  picked [] [] h among = absurd (none_in among)
+  picked [] [] h among = absurd (none_among x among)
   picked [] (o ∷ os) h among = absurd h
   picked (y ∷ xs) os (inl h) among =
       let here : IsAmong (y ∷ h.1.0) x = rw (← h.1.1) among in
@@ -52,7 +46,7 @@ module _ {A : Type 0} (P : A → Type 0) (x : A) where
 
   -- What has the property and is of the list is picked.
   pub is_picked : (xs os : List A) → Picks P xs os → P x → IsAmong xs x → IsAmong os x
-  is_picked [] os h holds among = absurd (none_in among)
+  is_picked [] os h holds among = absurd (none_among x among)
   is_picked (y ∷ xs) os (inl h) holds among = rw h.1.1 (with_first y xs h.1.0 (λ g. is_picked xs h.1.0 h.1.2 holds g) among.0 among.1)
   is_picked (y ∷ xs) os (inr h) holds among = without_first y xs os holds h.0 (λ g. is_picked xs os h.1 holds g) among.0 among.1
 
@@ -67,6 +61,7 @@ pick_decided {A = A} P (x ∷ xs) decide = add (decide x (0, refl)) (pick_decide
 
 -- ---- offers
 
+-- a state has one offer
 pub one_offer : OneOffer
 one_offer file ms os qs h g = picks_once (IsPossible file ms) (candidates file ms) os qs h g
 
@@ -79,6 +74,7 @@ module _ (file : DrawFile) (ms : List Move) (os : List Choice) (c : Choice) (off
   pub is_offered : IsPossible file ms c → IsAmong os c
   is_offered possible = is_picked (IsPossible file ms) c (candidates file ms) os offer possible possible.1.0
 
+-- exactly what is possible is offered
 pub offered_where_possible : OfferedWherePossible
 offered_where_possible file ms os c offer = (λ among. (offered file ms os c offer among).0, is_offered file ms os c offer)
 
@@ -96,5 +92,6 @@ possible_decided file ms decide c among = go (move_in (phase_of file ms) c) refl
     go None is = inr (λ p. let clash = sym is ∙ p.1.1 in cc)
     go (Some m) is = by m (among, is) (decide m (c, (among, is)))
 
+-- a state has an offer where it is decided of each candidate's move
 pub offer_where_decided : OfferWhereDecided
 offer_where_decided file ms decide = pick_decided (IsPossible file ms) (candidates file ms) (possible_decided file ms decide)

@@ -1,17 +1,13 @@
 -- Which teams stand in a pot, and among those of it that have a property.
 use Rattle.std.proofs.Common.{◌≡◌, ℕ, zero, suc, ◌+◌, Bool, true, false, List, [], ◌∷◌, map, Some, slice_get, arith, refl, ap, sym, ◌∙◌, add-zero}
 use Rattle.std.specs.Prelude.{filter, ◌==◌, if◌then◌else◌}
-use Rattle.std.proofs.lemmas.Bool.Decides.{nat_tests}
+use Rattle.std.proofs.lemmas.Bool.{eqb-true, eq-eqb}
 use Rattle.team_files.specs.declared.team.Team.{Team}
 use Rattle.team_files.specs.declared.team_id.TeamId.{TeamId}
 use Rattle.draw_tables.specs.declared.moves.Choice.{Choice}
-use Rattle.draw_tables.specs.Pots.{pot_from, IsAmong}
-
-equal : (a b : ℕ) → a ≡ b → (a == b) ≡ true
-equal a b e = grind (arith, nat_tests)
-
-is_equal : (a b : ℕ) → (a == b) ≡ true → a ≡ b
-is_equal a b e = grind (arith, nat_tests)
+use Rattle.draw_tables.specs.Lists.{IsAmong}
+use Rattle.draw_tables.specs.Pots.{pot_from}
+use Rattle.draw_tables.proofs.Lists.{none_among}
 
 -- ---- one more item, where the test holds
 
@@ -26,12 +22,13 @@ module _ {A : Type 0} (x : A) (xs : List A) where
 
 -- ---- the teams of a pot
 
+-- a team of the pot stands in it
 pub pot_among : (pot i : ℕ) (ts : List Team) (k : ℕ) (t : Team) → slice_get ts k ≡ Some t → t.pot ≡ pot → IsAmong (pot_from pot i ts) (record { 0 = i + k })
 pot_among pot i [] k t e p = cc
 pot_among pot i (u ∷ ts) zero t e p =
     let same : u ≡ t = cc in
     let is : u.pot ≡ pot = ap (λ v. v.pot) same ∙ p in
-    rw add-zero (here (record { 0 = i }) (pot_from pot (i + 1) ts) (u.pot == pot) (equal u.pot pot is))
+    rw add-zero (here (record { 0 = i }) (pot_from pot (i + 1) ts) (u.pot == pot) (eq-eqb u.pot pot is))
 pot_among pot i (u ∷ ts) (suc k) t e p =
     let n : i + 1 + k ≡ i + suc k = omega arith in
     let found = rw n at (pot_among pot (i + 1) ts k t e p) in
@@ -43,11 +40,9 @@ pub record StandsIn (pot i : ℕ) (ts : List Team) (x : TeamId) (k : ℕ) (t : T
   pub stands : slice_get ts k ≡ Some t
   pub pot_is : t.pot ≡ pot
 
+-- what stands in a pot is a team of it
 pub among_pot : (pot i : ℕ) (ts : List Team) (x : TeamId) → IsAmong (pot_from pot i ts) x → (k : ℕ) × (t : Team) × StandsIn pot i ts x k t
-among_pot pot i [] x h = absurd (none h.0 h.1)
-  where
-    none : (k : ℕ) → slice_get [] k ≡ Some x → ⊥
-    none k e = cc
+among_pot pot i [] x h = absurd (none_among x h)
 among_pot pot i (u ∷ ts) x h = go (λ g. among_pot pot (i + 1) ts x g) (u.pot == pot) refl h.0 h.1
   where
     after : (k : ℕ) × (t : Team) × StandsIn pot (i + 1) ts x k t → (k : ℕ) × (t : Team) × StandsIn pot i (u ∷ ts) x k t
@@ -61,10 +56,11 @@ among_pot pot i (u ∷ ts) x h = go (λ g. among_pot pot (i + 1) ts x g) (u.pot 
     go found true is zero e =
         let same : record { 0 = i } ≡ x = cc in
         let number : i ≡ x.0 = ap (λ y. y.0) same in
-        (0, u, record { number = omega arith; stands = refl; pot_is = is_equal u.pot pot is })
+        (0, u, record { number = omega arith; stands = refl; pot_is = eqb-true u.pot pot is })
 
 -- ---- those that have a property
 
+-- an item with the property is kept, and what is kept is an item with it
 pub kept_among : (p : TeamId → Bool) (xs : List TeamId) (x : TeamId) → IsAmong xs x → p x ≡ true → IsAmong (filter p xs) x
 kept_among p xs x h is = at xs h.0 h.1
   where
@@ -74,10 +70,7 @@ kept_among p xs x h is = at xs h.0 h.1
     at (y ∷ ys) (suc k) e = later y (filter p ys) (p y) x (at ys k e)
 
 pub among_kept : (p : TeamId → Bool) (xs : List TeamId) (x : TeamId) → IsAmong (filter p xs) x → (p x ≡ true) × IsAmong xs x
-among_kept p [] x h = absurd (none h.0 h.1)
-  where
-    none : (k : ℕ) → slice_get [] k ≡ Some x → ⊥
-    none k e = cc
+among_kept p [] x h = absurd (none_among x h)
 among_kept p (y ∷ ys) x h = go (λ g. among_kept p ys x g) (p y) refl h.0 h.1
   where
     after : (p x ≡ true) × IsAmong ys x → (p x ≡ true) × IsAmong (y ∷ ys) x
@@ -90,6 +83,7 @@ among_kept p (y ∷ ys) x h = go (λ g. among_kept p ys x g) (p y) refl h.0 h.1
 
 -- ---- choices
 
+-- a team is among teams exactly where its choice is among their choices
 pub choice_among : (ts : List TeamId) (t : TeamId) → IsAmong ts t → IsAmong (map (λ s. Choice.Team s) ts) (Choice.Team t)
 choice_among ts t h = at ts h.0 h.1
   where

@@ -1,44 +1,46 @@
 -- The cases of broken rules of a pairing table: what the passes find, and legal tables.
 use Rattle.std.proofs.Common.{◌≡◌, ◌≢◌, ℕ, zero, suc, ◌≤◌, inl, inr, Bool, true, false, List, [], ◌∷◌, length, Option, Some, None, slice_get, arith, refl, sym, ap, ◌∙◌}
 use Rattle.std.specs.Prelude.{◌==◌, if◌then◌else◌}
-use Rattle.std.proofs.lemmas.Bool.{false≢true}
+use Rattle.std.proofs.lemmas.Bool.{false≢true, eqb-true, eqb-false}
 use Rattle.team_files.specs.declared.team.Team.{Team}
 use Rattle.team_files.specs.declared.team_id.TeamId.{TeamId}
 use Rattle.rule_sets.specs.Files.{DrawFile}
 use Rattle.rule_sets.specs.Forms.{HasPairingForm}
 use Rattle.draw_tables.specs.declared.pair_rule.PairRule.{PairRule}
 use Rattle.draw_tables.specs.declared.pair_rule.PairRule.TheVariants.{Letters, Tags, Forbidden}
-use Rattle.draw_tables.specs.Pots.{winners, runners_up, IsAmong}
-use Rattle.draw_tables.specs.Pairings.{GivesOpponent, IsLegalPairing, have_same_letter, have_common_tag}
-use Rattle.draw_tables.specs.Passes.{both, breaks, first_not_once, first_pair}
+use Rattle.draw_tables.specs.Lists.{IsAmong}
+use Rattle.draw_tables.specs.Pots.{winners, runners_up}
+use Rattle.draw_tables.specs.Pairings.{GivesOpponent, IsLegalPairing, have_same_letter, have_common_tag, both, breaks}
+use Rattle.draw_tables.specs.Passes.{first_not_once, first_pair}
 use Rattle.draw_tables.specs.Verdicts.{times_given, team_at, HaveOneLetter, HaveOneTag, IsBrokenPairing}
-use Rattle.draw_tables.proofs.Counts.{same_item, same_by_test, apart_by_test, given_at, once_at, counts_once}
-use Rattle.draw_tables.proofs.InOrder.{IsInOrder, pot_in_order, pot_length}
-use Rattle.draw_tables.proofs.Pigeonhole.{nobody_else}
+use Rattle.draw_tables.proofs.Lists.{same_item, none_among}
+use Rattle.draw_tables.proofs.TimesGiven.{given_at, once_at, counts_once}
+use Rattle.draw_tables.proofs.PotOrder.{IsInOrder, pot_in_order, pot_length}
+use Rattle.draw_tables.proofs.NobodyElse.{nobody_else}
 
 -- ---- rule 1
 
+-- the first of the teams that is not given exactly once, and how often it is given
 pub record IsFirstNotOnce (table ws : List TeamId) (w : TeamId) (n : ℕ) : Type 0 where
   pub among : IsAmong ws w
   pub times : n ≡ times_given w table
   pub not_once : n ≢ 1
   pub least : (v : TeamId) → IsAmong ws v → times_given v table ≢ 1 → w.0 ≤ v.0
 
+-- where none is found each team is given once
 pub all_once : (table ws : List TeamId) → first_not_once table ws ≡ None → (v : TeamId) → IsAmong ws v → times_given v table ≡ 1
-all_once table [] e v among = absurd (no_item among.0 among.1)
-  where
-    no_item : (k : ℕ) → slice_get [] k ≡ Some v → ⊥
-    no_item k f = cc
+all_once table [] e v among = absurd (none_among v among)
 all_once table (w ∷ ws) e v among = go (times_given w table == 1) refl e among.0 among.1 (all_once table ws)
   where
     go : (b : Bool) → (times_given w table == 1) ≡ b → (if b then first_not_once table ws else Some (w, times_given w table)) ≡ None
         → (k : ℕ) → slice_get (w ∷ ws) k ≡ Some v
         → (first_not_once table ws ≡ None → (v : TeamId) → IsAmong ws v → times_given v table ≡ 1)
         → times_given v table ≡ 1
-    go true is f zero g later = let s = same_item w v g in rw (← s) (same_by_test (times_given w table) 1 is)
+    go true is f zero g later = let s = same_item w v g in rw (← s) (eqb-true (times_given w table) 1 is)
     go true is f (suc k) g later = later f v (k, g)
     go false is f k g later = cc
 
+-- the one that is found is the first
 pub found_not_once : (table ws : List TeamId) (w : TeamId) (n : ℕ) → IsInOrder ws → first_not_once table ws ≡ Some (w, n) → IsFirstNotOnce table ws w n
 found_not_once table [] w n order e = cc
 found_not_once table (u ∷ us) w n order e = go (times_given u table == 1) refl e (found_not_once table us w n order.1)
@@ -65,15 +67,16 @@ found_not_once table (u ∷ us) w n order e = go (times_given u table == 1) refl
     go : (b : Bool) → (times_given u table == 1) ≡ b → (if b then first_not_once table us else Some (u, times_given u table)) ≡ Some (w, n)
         → (first_not_once table us ≡ Some (w, n) → IsFirstNotOnce table us w n)
         → IsFirstNotOnce table (u ∷ us) w n
-    go true is f later = up (later f) (same_by_test (times_given u table) 1 is)
+    go true is f later = up (later f) (eqb-true (times_given u table) 1 is)
     go false is f later =
         let s = same_item (u, times_given u table) (w, n) f in
         let one : u ≡ w = ap (λ p. p.0) s in
         let two : times_given u table ≡ n = ap (λ p. p.1) s in
-        rw (← one, ← two) (here (apart_by_test (times_given u table) 1 is))
+        rw (← one, ← two) (here (eqb-false (times_given u table) 1 is))
 
 -- ---- rules 2 to 4
 
+-- the first pair that passes the test
 pub record IsFirstPair (test : TeamId → TeamId → Bool) (rs ws : List TeamId) (r w : TeamId) : Type 0 where
   pub at : ℕ
   pub runner : slice_get rs at ≡ Some r
@@ -81,6 +84,7 @@ pub record IsFirstPair (test : TeamId → TeamId → Bool) (rs ws : List TeamId)
   pub holds : test r w ≡ true
   pub least : (j : ℕ) (s v : TeamId) → slice_get rs j ≡ Some s → slice_get ws j ≡ Some v → test s v ≡ true → r.0 ≤ s.0
 
+-- where none is found no pair passes
 pub no_pair : (test : TeamId → TeamId → Bool) (rs ws : List TeamId) → first_pair test rs ws ≡ None
     → (j : ℕ) (s v : TeamId) → slice_get rs j ≡ Some s → slice_get ws j ≡ Some v → test s v ≡ false
 no_pair test [] ws e j s v f g = cc
@@ -95,6 +99,7 @@ no_pair test (r ∷ rs) (w ∷ ws) e j s v f g = go (test r w) refl e j f g (no_
     go false is h zero f g later = let a = same_item r s f in let b = same_item w v g in rw (← a, ← b) is
     go false is h (suc j) f g later = later h j s v f g
 
+-- the one that is found is the first
 pub found_pair : (test : TeamId → TeamId → Bool) (rs ws : List TeamId) (r w : TeamId) → IsInOrder rs → first_pair test rs ws ≡ Some (r, w) → IsFirstPair test rs ws r w
 found_pair test [] ws r w order e = cc
 found_pair test (q ∷ qs) [] r w order e = cc
@@ -134,10 +139,12 @@ both_hold test None p e = cc
 both_hold test (Some a) None e = cc
 both_hold test (Some a) (Some b) e = (a, b, refl, refl, e)
 
+-- the test of two teams of the file
 pub both_are : (test : Team → Team → Bool) (o p : Option Team) (a b : Team) → o ≡ Some a → p ≡ Some b → both test o p ≡ test a b
 both_are test o p a b e f = rw (e, f) refl
 
 module _ (file : DrawFile) (table : List TeamId) where
+  -- a pair of the table that breaks a rule is a case of it, and the other way round
   pub letters_broken : (r w : TeamId) → GivesOpponent file table r w → breaks file Letters r w ≡ true → HaveOneLetter file table r.0 w.0
   letters_broken r w gives e =
       let h = both_hold have_same_letter (slice_get file.teams r.0) (slice_get file.teams w.0) e in
@@ -160,6 +167,7 @@ module _ (file : DrawFile) (table : List TeamId) where
 abbrev pub KeepsRule : DrawFile → List TeamId → PairRule → Type 0
 KeepsRule file table rule = (r w : TeamId) → GivesOpponent file table r w → breaks file rule r w ≡ false
 
+-- a table that keeps each rule is legal
 pub legal_by : (file : DrawFile) (table : List TeamId) → HasPairingForm file → length table ≡ length (runners_up file)
     → ((w : TeamId) → IsAmong (winners file) w → times_given w table ≡ 1)
     → KeepsRule file table Letters → KeepsRule file table Tags → KeepsRule file table Forbidden
@@ -180,6 +188,7 @@ legal_by file table formed size each letters tags forbidden = record {
     only : (w : TeamId) → IsAmong table w → IsAmong (winners file) w
     only = nobody_else (winners file) table (pot_in_order 1 file) each as_many
 
+-- a legal table breaks no rule
 pub legal_keeps : (file : DrawFile) (table : List TeamId) → IsLegalPairing file table
     → (rule first second : ℕ) → IsBrokenPairing file table rule first second → ⊥
 legal_keeps file table legal rule first second (inl (e, h)) =

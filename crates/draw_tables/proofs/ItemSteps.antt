@@ -5,6 +5,7 @@ use Rattle.team_files.specs.declared.team.Team.{Team}
 use Rattle.team_files.specs.declared.team_id.TeamId.{TeamId}
 use Rattle.draw_tables.specs.Reading.{spaced_team, spaced_teams}
 
+-- nothing was read where nothing came of it
 pub none_before : {A B : Type 0} (f : A → B) (o : Option A) → None ≡ option_map f o → o ≡ None
 none_before f None e = refl
 none_before f (Some a) e = cc
@@ -24,15 +25,18 @@ module _ (teams : List Team) (n i : ℕ) (rest : List ℕ) (found : List TeamId)
   left : i < n → n - i ≡ suc (n - (i + 1))
   left lt = omega arith
 
+  -- an item is read
   pub read_next : i < n → (t : TeamId) (new : List TeamId) → spaced_team teams rest ≡ Some t → new ≡ found ++ t ∷ []
       → option_map (λ ts. new ++ ts) (spaced_teams teams (n - (i + 1)) (drop 4 rest)) ≡ whole
   read_next lt t new e is =
       let here = rw (left lt, more teams (n - (i + 1)) rest t e) at so_far in
       rw is (sym (behind found t (spaced_teams teams (n - (i + 1)) (drop 4 rest))) ∙ here)
 
+  -- no item stands in front
   pub read_none : i < n → spaced_team teams rest ≡ None → None ≡ whole
   read_none lt e = rw (left lt, no_more teams (n - (i + 1)) rest e) at so_far
 
+  -- something stands behind the last item
   pub read_left_over : n ≤ i → length rest ≢ 0 → None ≡ whole
   read_left_over le some = let zero_left : n - i ≡ 0 = omega arith in over rest some (rw zero_left at so_far)
     where
@@ -40,6 +44,7 @@ module _ (teams : List Team) (n i : ℕ) (rest : List ℕ) (found : List TeamId)
       over [] h e = absurd (h refl)
       over (b ∷ bs) h e = e
 
+  -- nothing does
   pub read_whole : n ≤ i → length rest ≡ 0 → whole ≡ Some found
   read_whole le none = let zero_left : n - i ≡ 0 = omega arith in over rest none (rw zero_left at so_far)
     where

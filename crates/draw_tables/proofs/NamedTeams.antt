@@ -11,13 +11,14 @@ use Rattle.draw_tables.specs.declared.moves.Choice.{Choice}
 use Rattle.draw_tables.specs.declared.moves.Choice.TheVariants.{Team}
 use Rattle.draw_tables.specs.declared.moves.Phase.{Phase}
 use Rattle.draw_tables.specs.declared.moves.Phase.TheVariants.{Runner, Opponent, Complete}
-use Rattle.draw_tables.specs.Pots.{IsTeamOf, IsAmong}
+use Rattle.draw_tables.specs.Lists.{IsAmong}
+use Rattle.draw_tables.specs.Pots.{IsTeamOf}
 use Rattle.draw_tables.specs.Moves.{last_drawn}
 use Rattle.draw_tables.specs.PairingPhases.{has_opponent, undrawn, pairing_phase_with, pairing_phase}
 use Rattle.draw_tables.specs.States.{phase_by, phase_of, candidates, move_in, IsCandidateMove, AreMovesAfter}
 use Rattle.draw_tables.specs.Offers.{IsPossible, Picks}
 use Rattle.draw_tables.specs.Names.{IsFileMove, AreFileMoves, IsFileChoice, AreFileChoices, IsFilePhase, StatesNameTeams}
-use Rattle.draw_tables.proofs.Within.{candidates_within}
+use Rattle.draw_tables.proofs.FileTeams.{candidates_within}
 
 -- ---- choices
 
@@ -103,6 +104,7 @@ moves_after_are_of file before (m ∷ ms) named h =
 
 -- ---- the law
 
+-- what a state names is of its file
 pub states_name_teams : StatesNameTeams
 states_name_teams = record {
   moves = λ file ms state. moves_after_are_of file [] ms tt state;

@@ -9,7 +9,7 @@ use Rattle.team_files.specs.Heads.{pot_size}
 use Rattle.rule_sets.specs.Files.{DrawFile}
 use Rattle.rule_sets.specs.Forms.{HasCommonForm, HasPairingForm, IsInPot}
 use Rattle.draw_tables.specs.Pots.{runners_up}
-use Rattle.draw_tables.proofs.InOrder.{pot_length}
+use Rattle.draw_tables.proofs.PotOrder.{pot_length}
 
 -- one team more
 one_more : (pot : ℕ) (t : Team) (ts : List Team) → pot_size pot (t ∷ ts) ≡ cond (t.pot == pot) 1 0 + pot_size pot ts
@@ -37,6 +37,7 @@ both_pots (t ∷ ts) h =
     let rest = both_pots ts (All-tail (IsInPot 2) t ts h) in
     omega arith
 
+-- half of the teams are runners-up, at least one
 pub half : (file : DrawFile) → HasCommonForm file → HasPairingForm file → (length file.teams ≡ 2 * length (runners_up file)) × (1 ≤ length (runners_up file))
 half file common pairing =
     let all = both_pots file.teams (rw pairing.pots at common.in_pots) in

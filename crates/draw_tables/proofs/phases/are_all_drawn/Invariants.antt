@@ -3,7 +3,7 @@ use Rattle.std.specs.Prelude.{filter}
 use Rattle.draw_tables.specs.Pots.{pot_from}
 use Rattle.draw_tables.specs.Moves.{is_drawn}
 use Rattle.draw_tables.specs.PairingPhases.{undrawn}
-use Rattle.draw_tables.proofs.phases.has_undrawn.Given as goal
+use Rattle.draw_tables.proofs.phases.are_all_drawn.Given as goal
 
 -- each runner-up before this place was drawn
 abbrev pub invariant-loop-place : goal.invariant-loop-place

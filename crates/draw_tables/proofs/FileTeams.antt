@@ -23,6 +23,7 @@ pot_within : (file : DrawFile) (pot i : ℕ) (ts : List Team)
 pot_within file pot i [] le = tt
 pot_within file pot i (t ∷ ts) le = either file (record { 0 = i }) (pot_from pot (i + 1) ts) (t.pot == pot) (omega arith) (pot_within file pot (i + 1) ts (omega arith))
 
+-- the teams of a pot are of the file
 pub teams_within : (file : DrawFile) (pot : ℕ) → AreTeamsOf file (teams_of_pot pot file)
 teams_within file pot = pot_within file pot 0 file.teams (omega arith)
 
@@ -36,6 +37,7 @@ choices_of : (file : DrawFile) (ts : List TeamId) → AreTeamsOf file ts → Are
 choices_of file [] h = tt
 choices_of file (t ∷ ts) h = (h.0, choices_of file ts h.1)
 
+-- the candidates are of the file
 pub candidates_within : (file : DrawFile) (ms : List Move) (p : Phase) → AreFileChoices file (candidates_in file ms p)
 candidates_within file ms Runner = choices_of file (undrawn file ms) (filter_within file (λ r. not (is_drawn r ms)) (runners_up file) (teams_within file 2))
 candidates_within file ms (Opponent r) = choices_of file (unpaired file ms) (filter_within file (λ w. not (is_paired w ms)) (winners file) (teams_within file 1))

@@ -1,11 +1,14 @@
 -- Where a table gives each of so many teams once and nothing more, it gives nobody else.
 use Rattle.std.proofs.Common.{◌≡◌, ◌≢◌, ℕ, zero, suc, ◌+◌, ◌⊎◌, inl, inr, Bool, true, false, List, [], ◌∷◌, length, Some, slice_get, arith, refl, sym, ap, ◌∙◌}
 use Rattle.std.specs.Prelude.{◌==◌, if◌then◌else◌}
+use Rattle.std.proofs.lemmas.Bool.{eqb-true, ne_eqb}
 use Rattle.team_files.specs.declared.team_id.TeamId.{TeamId}
-use Rattle.draw_tables.specs.Pots.{IsAmong}
+use Rattle.draw_tables.specs.Lists.{IsAmong}
 use Rattle.draw_tables.specs.Verdicts.{times_given}
-use Rattle.draw_tables.proofs.Counts.{same_id, same_item, same_by_test, test_apart, it_counts, other_counts_not}
-use Rattle.draw_tables.proofs.InOrder.{IsInOrder}
+use Rattle.draw_tables.proofs.Lists.{same_item}
+use Rattle.draw_tables.proofs.Numbers.{same_id}
+use Rattle.draw_tables.proofs.TimesGiven.{it_counts, other_counts_not}
+use Rattle.draw_tables.proofs.PotOrder.{IsInOrder}
 
 -- the table without a team
 abbrev without : TeamId → List TeamId → List TeamId
@@ -32,8 +35,8 @@ times_without w v (t ∷ ts) n = go (t.0 == w.0) refl (times_without w v ts n)
     go : (b : Bool) → (t.0 == w.0) ≡ b → times_given v (without w ts) ≡ times_given v ts
         → times_given v (if b then without w ts else t ∷ without w ts) ≡ times_given v (t ∷ ts)
     go true e later =
-        let is = same_by_test t.0 w.0 e in
-        later ∙ sym (other_counts_not v t ts (test_apart t.0 v.0 (λ s. n (sym s ∙ is))))
+        let is = eqb-true t.0 w.0 e in
+        later ∙ sym (other_counts_not v t ts (ne_eqb t.0 v.0 (λ s. n (sym s ∙ is))))
     go false e later = kept (t.0 == v.0) refl later
 
 among_without : (w x : TeamId) (ts : List TeamId) (k : ℕ) → slice_get ts k ≡ Some x → (x ≡ w) ⊎ IsAmong (without w ts) x
@@ -47,11 +50,12 @@ among_without w x (t ∷ ts) k e = go (t.0 == w.0) refl k e (among_without w x t
     go : (b : Bool) → (t.0 == w.0) ≡ b → (k : ℕ) → slice_get (t ∷ ts) k ≡ Some x
         → ((k : ℕ) → slice_get ts k ≡ Some x → (x ≡ w) ⊎ IsAmong (without w ts) x)
         → (x ≡ w) ⊎ IsAmong (if b then without w ts else t ∷ without w ts) x
-    go true e zero f later = inl (sym (same_item t x f) ∙ same_id t w (same_by_test t.0 w.0 e))
+    go true e zero f later = inl (sym (same_item t x f) ∙ same_id t w (eqb-true t.0 w.0 e))
     go true e (suc k) f later = later k f
     go false e zero f later = inr (0, f)
     go false e (suc k) f later = up (later k f)
 
+-- as many places as teams that are given once leave none for another
 pub nobody_else : (ws ts : List TeamId) → IsInOrder ws → ((w : TeamId) → IsAmong ws w → times_given w ts ≡ 1)
     → length ts ≡ length ws → (x : TeamId) → IsAmong ts x → IsAmong ws x
 nobody_else [] [] order each size x among = among

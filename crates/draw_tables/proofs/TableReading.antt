@@ -11,9 +11,9 @@ use Rattle.draw_tables.specs.declared.table.Table.TheVariants.{Pairs}
 use Rattle.draw_tables.specs.Pots.{runners_up, AreTeamsOf}
 use Rattle.draw_tables.specs.TableTexts.{IsTextOf, OneTableOfText}
 use Rattle.draw_tables.specs.Reading.{teams_in}
-use Rattle.draw_tables.proofs.Counts.{same_item}
-use Rattle.draw_tables.proofs.Halves.{half}
-use Rattle.draw_tables.proofs.TextsRead.{AllWithin, read_has_text, text_is_read}
+use Rattle.draw_tables.proofs.Lists.{same_item}
+use Rattle.draw_tables.proofs.HalfOfTeams.{half}
+use Rattle.draw_tables.proofs.TextReading.{AllWithin, read_has_text, text_is_read}
 
 are_teams : (file : DrawFile) (ts : List TeamId) → AllWithin file.teams ts → AreTeamsOf file ts
 are_teams file [] h = tt
@@ -23,18 +23,21 @@ are_within : (file : DrawFile) (ts : List TeamId) → AreTeamsOf file ts → All
 are_within file [] h = tt
 are_within file (t ∷ ts) h = (h.0, are_within file ts h.1)
 
+-- what is read of bytes has them as its text
 pub read_is_text : (file : DrawFile) (pairs : PairTable) (more : ℕ) (bytes : List ℕ) → file.kind ≡ Kind.Pairing → more + 1 ≡ length (runners_up file)
     → teams_in file.teams more bytes ≡ Some pairs.winners → IsTextOf file (Pairs pairs) bytes
 read_is_text file pairs more bytes kind size e =
     let h = read_has_text file.teams more bytes pairs.winners e in
     record { of_file = record { kind = kind; size = h.size ∙ size; teams = are_teams file pairs.winners h.within }; text = h.text }
 
+-- a table is read of its text
 pub text_gives : (file : DrawFile) (pairs : PairTable) (more : ℕ) (bytes : List ℕ) → HasForm file → more + 1 ≡ length (runners_up file)
     → IsTextOf file (Pairs pairs) bytes → teams_in file.teams more bytes ≡ Some pairs.winners
 text_gives file pairs more bytes form size h =
     text_is_read file.teams form.common.codes form.common.distinct_codes more bytes pairs.winners
     (record { size = h.of_file.size ∙ sym size; within = are_within file pairs.winners h.of_file.teams; text = h.text })
 
+-- where nothing is read the bytes are no table's text
 pub no_text : (file : DrawFile) (table : Table) (more : ℕ) (bytes : List ℕ) → HasForm file → more + 1 ≡ length (runners_up file)
     → teams_in file.teams more bytes ≡ None → IsTextOf file table bytes → ⊥
 no_text file (Pairs pairs) more bytes form size none h = let some = text_gives file pairs more bytes form size h in cc
@@ -51,6 +54,7 @@ one_before : (n : ℕ) → 1 ≤ n → (m : ℕ) × (m + 1 ≡ n)
 one_before zero le = absurd (omega arith)
 one_before (suc m) le = (m, omega arith)
 
+-- two tables of one text are one
 pub one_table_of_text : FilesHaveForm → OneTableOfText
 one_table_of_text forms file (Pairs one) (Pairs other) bytes formed h g =
     let form = forms file formed in

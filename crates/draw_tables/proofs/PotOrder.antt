@@ -7,6 +7,7 @@ use Rattle.team_files.specs.declared.team_id.TeamId.{TeamId}
 use Rattle.team_files.specs.Heads.{pot_size}
 use Rattle.rule_sets.specs.Files.{DrawFile}
 use Rattle.draw_tables.specs.Pots.{pot_from, teams_of_pot, IsTeam}
+use Rattle.draw_tables.proofs.Lists.{item_at}
 
 -- each number is below those after it
 abbrev pub IsInOrder : List TeamId → Type 0
@@ -32,6 +33,7 @@ order_from : (pot n : ℕ) (ts : List Team) → IsInOrder (pot_from pot n ts)
 order_from pot n [] = tt
 order_from pot n (t ∷ ts) = order_put n (n + 1 + length ts) (pot_from pot (n + 1) ts) (t.pot == pot) (in_range pot (n + 1) (n + 1 + length ts) ts (omega arith)) (order_from pot (n + 1) ts)
 
+-- the teams of a pot are in order
 pub pot_in_order : (pot : ℕ) (file : DrawFile) → IsInOrder (teams_of_pot pot file)
 pot_in_order pot file = order_from pot 0 file.teams
 
@@ -43,13 +45,13 @@ once (y ∷ xs) h zero (suc j) x e f = let s : y ≡ x = cc in let q : y.0 ≡ x
 once (y ∷ xs) h (suc i) zero x e f = let s : y ≡ x = cc in let q : y.0 ≡ x.0 = ap (λ z. z.0) s in let g = h.0 i x e in absurd (omega arith)
 once (y ∷ xs) h (suc i) (suc j) x e f = ap suc (once xs h.1 i j x e f)
 
-team_of_file : (ts : List Team) (n : ℕ) → n < length ts → (t : Team) × (slice_get ts n ≡ Some t)
-team_of_file [] n lt = absurd (omega arith)
-team_of_file (t ∷ ts) zero lt = (t, refl)
-team_of_file (t ∷ ts) (suc n) lt = team_of_file ts n (omega arith)
+-- each team stands once in a pot
+pub pot_once : (pot : ℕ) (file : DrawFile) (i j : ℕ) (x : TeamId) → slice_get (teams_of_pot pot file) i ≡ Some x → slice_get (teams_of_pot pot file) j ≡ Some x → i ≡ j
+pot_once pot file i j x e f = once (teams_of_pot pot file) (pot_in_order pot file) i j x e f
 
+-- what stands in a pot is a team of the file
 pub pot_team : (pot : ℕ) (file : DrawFile) (k : ℕ) (x : TeamId) → slice_get (teams_of_pot pot file) k ≡ Some x → (t : Team) × IsTeam file x t
-pot_team pot file k x e = team_of_file file.teams x.0 (in_range pot 0 (length file.teams) file.teams (omega arith) k x e).1
+pot_team pot file k x e = item_at file.teams x.0 (in_range pot 0 (length file.teams) file.teams (omega arith) k x e).1
 
 -- ---- sizes
 
@@ -67,5 +69,6 @@ size_from pot n (t ∷ ts) =
 pub pot_length : (pot : ℕ) (file : DrawFile) → length (teams_of_pot pot file) ≡ pot_size pot file.teams
 pot_length pot file = size_from pot 0 file.teams
 
+-- and no more than the file has
 pub pot_at_most : (pot : ℕ) (file : DrawFile) → length (teams_of_pot pot file) ≤ length file.teams
 pot_at_most pot file = rw (pot_length pot file) (count_by-le-length (λ (t : Team). t.pot == pot) file.teams)

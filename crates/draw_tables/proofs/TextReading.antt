@@ -2,8 +2,9 @@
 use Rattle.std.proofs.Common.{◌≡◌, ℕ, zero, suc, ◌+◌, ◌<◌, Bool, true, false, List, [], ◌∷◌, ◌++◌, length, take, drop, Option, Some, None, slice_get, arith, refl, sym, ap, ◌∙◌}
 use Rattle.std.specs.Prelude.{◌==◌, if◌then◌else◌, bytes_eq, option_map, option_and_then}
 use Rattle.std.specs.List.{All, list_all}
-use Rattle.std.proofs.lemmas.Bool.{and_parts}
+use Rattle.std.proofs.lemmas.Bool.{and_parts, eqb-true}
 use Rattle.std.proofs.lemmas.List.Elements.{All-head, All-tail}
+use Rattle.std.proofs.lemmas.Option.{slice_get_within}
 use Rattle.std.proofs.lemmas.Slice.Eq.{bytes_eq-Decides}
 use Rattle.team_files.specs.declared.team.Team.{Team}
 use Rattle.team_files.specs.declared.team_id.TeamId.{TeamId}
@@ -12,12 +13,12 @@ use Rattle.team_files.specs.Teams.{find, find_from, HaveDistinctCodes}
 use Rattle.rule_sets.specs.Forms.{HasCode}
 use Rattle.draw_tables.specs.Reading.{front_team, spaced_team, spaced_teams, teams_in}
 use Rattle.draw_tables.specs.TableTexts.{code_in, code_of, spaced, codes_text}
-use Rattle.draw_tables.proofs.Counts.{same_item, same_by_test}
+use Rattle.draw_tables.proofs.Lists.{same_item, item_at}
 
 -- ---- three characters in front
 
 three : (code : List ℕ) → is_code code ≡ true → length code ≡ 3
-three code e = same_by_test (length code) 3 (and_parts (length code == 3) (list_all is_code_character code) e).0
+three code e = eqb-true (length code) 3 (and_parts (length code == 3) (list_all is_code_character code) e).0
 
 front_of : (n : ℕ) (code rest : List ℕ) → length code ≡ n → (take n (code ++ rest) ≡ code) × (drop n (code ++ rest) ≡ rest)
 front_of zero [] rest e = (refl, refl)
@@ -37,6 +38,7 @@ coded_at (u ∷ ts) (suc k) t h e = coded_at ts k t (All-tail HasCode u ts h) e
 
 -- ---- the team with a code
 
+-- a team with the code stands at the place
 pub record StandsAt (teams : List Team) (code : List ℕ) (at : ℕ) : Type 0 where
   pub team : Team
   pub stands : slice_get teams at ≡ Some team
@@ -56,11 +58,6 @@ found_coded code (t ∷ ts) n id e = go (bytes_eq t.code code) refl e (found_cod
         let found = later h in
         let place = found.1 in
         (suc found.0, omega arith, record { team = found.2.team; stands = found.2.stands; coded = found.2.coded })
-
-within : (ts : List Team) (k : ℕ) (t : Team) → slice_get ts k ≡ Some t → k < length ts
-within [] k t e = cc
-within (u ∷ ts) zero t e = omega arith
-within (u ∷ ts) (suc k) t e = let h = within ts k t e in omega arith
 
 -- a team that stands in the list is found by its code
 is_found : (code : List ℕ) (ts : List Team) (n k : ℕ) (t : Team) → HaveDistinctCodes ts → slice_get ts k ≡ Some t → t.code ≡ code → find_from code ts n ≡ Some (record { 0 = n + k })
@@ -86,6 +83,7 @@ is_found code (u ∷ ts) n (suc k) t distinct e is =
 
 -- ---- one item
 
+-- the team's code stands in front
 pub record IsFront (teams : List Team) (bytes : List ℕ) (t : TeamId) : Type 0 where
   pub within : t.0 < length teams
   pub text : code_of teams t ++ drop 3 bytes ≡ bytes
@@ -99,19 +97,14 @@ front_gives teams bytes t e = go (is_code (take 3 bytes)) e
         let place : t.0 ≡ found.0 = let is = found.1 in omega arith in
         let stands : slice_get teams t.0 ≡ Some found.2.team = ap (slice_get teams) place ∙ found.2.stands in
         let code : code_of teams t ≡ take 3 bytes = ap code_in stands ∙ found.2.coded in
-        let lt = within teams t.0 found.2.team stands in
+        let lt = slice_get_within teams t.0 found.2.team stands in
         record { within = lt; text = ap (λ xs. xs ++ drop 3 bytes) code ∙ front_and_rest 3 bytes }
     go false h = cc
 
 module _ (teams : List Team) (coded : All HasCode teams) (distinct : HaveDistinctCodes teams) where
-  team_at : (n : ℕ) (ts : List Team) → n < length ts → (t : Team) × (slice_get ts n ≡ Some t)
-  team_at n [] lt = absurd (omega arith)
-  team_at zero (t ∷ ts) lt = (t, refl)
-  team_at (suc n) (t ∷ ts) lt = team_at n ts (omega arith)
-
   front_is : (t : TeamId) (rest : List ℕ) → t.0 < length teams → (front_team teams (code_of teams t ++ rest) ≡ Some t) × (drop 3 (code_of teams t ++ rest) ≡ rest)
   front_is t rest lt =
-      let team = team_at t.0 teams lt in
+      let team = item_at teams t.0 lt in
       let is : code_of teams t ≡ team.0.code = ap code_in team.1 in
       let form = coded_at teams t.0 team.0 coded team.1 in
       let front = front_of 3 team.0.code rest (three team.0.code form) in
@@ -126,6 +119,7 @@ abbrev pub AllWithin : List Team → List TeamId → Type 0
 AllWithin teams [] = Unit {0}
 AllWithin teams (t ∷ ts) = (t.0 < length teams) × AllWithin teams ts
 
+-- so many teams' codes, each behind one space, are the bytes
 pub record AreSpaced (teams : List Team) (n : ℕ) (bytes : List ℕ) (ts : List TeamId) : Type 0 where
   pub size : length ts ≡ n
   pub within : AllWithin teams ts
@@ -137,6 +131,7 @@ both_given None next f c e = cc
 both_given (Some a) None f c e = cc
 both_given (Some a) (Some b) f c e = (a, b, refl, refl, same_item (f a b) c e)
 
+-- the team's code stands in front behind one space
 pub record IsSpacedFront (teams : List Team) (bytes : List ℕ) (t : TeamId) : Type 0 where
   pub within : t.0 < length teams
   pub text : 32 ∷ code_of teams t ++ drop 4 bytes ≡ bytes
@@ -148,7 +143,7 @@ spaced_gives teams (b ∷ bytes) t e = go (b == 32) refl e
     go : (x : Bool) → (b == 32) ≡ x → (if x then front_team teams bytes else None) ≡ Some t → IsSpacedFront teams (b ∷ bytes) t
     go true is h =
         let front = front_gives teams bytes t h in
-        let same = same_by_test b 32 is in
+        let same = eqb-true b 32 is in
         record { within = front.within; text = ap (λ xs. 32 ∷ xs) front.text ∙ ap (λ x. x ∷ bytes) (sym same) }
     go false is h = cc
 
@@ -165,6 +160,7 @@ all_given teams (suc n) bytes ts e =
       text = ap (λ xs. 32 ∷ code_of teams parts.0 ++ xs) rest.text ∙ front.text;
     })
 
+-- a team's code and so many more, with one space between two, are the bytes
 pub record AreTextOf (teams : List Team) (more : ℕ) (bytes : List ℕ) (ts : List TeamId) : Type 0 where
   pub size : length ts ≡ more + 1
   pub within : AllWithin teams ts

@@ -1,6 +1,6 @@
 -- What the passes of a judgement say of the table.
 use Rattle.std.proofs.Common.{◌≡◌, ◌≢◌, ℕ, zero, suc, ◌^◌, ◌<◌, ◌≤◌, ◌⊎◌, inl, inr, List, length, Some, None, slice_get, arith, refl, sym, ap, ◌∙◌}
-use Rattle.std.proofs.lemmas.Bool.{false_from_ne_true, false≢true}
+use Rattle.std.proofs.lemmas.Bool.{false_from_ne_true, false≢true, cases_eq}
 use Rattle.team_files.specs.declared.team_id.TeamId.{TeamId}
 use Rattle.rule_sets.specs.Files.{DrawFile}
 use Rattle.rule_sets.specs.Forms.{HasForm, HasCommonForm}
@@ -11,13 +11,13 @@ use Rattle.draw_tables.specs.declared.verdict.Verdict.TheVariants.{Legal, Broken
 use Rattle.draw_tables.specs.declared.pair_rule.PairRule.{PairRule}
 use Rattle.draw_tables.specs.declared.pair_rule.PairRule.TheVariants.{Letters, Tags, Forbidden}
 use Rattle.draw_tables.specs.Pots.{winners, runners_up}
-use Rattle.draw_tables.specs.Pairings.{GivesOpponent}
-use Rattle.draw_tables.specs.Passes.{IsJudgement, breaks, first_not_once, first_pair}
+use Rattle.draw_tables.specs.Pairings.{GivesOpponent, breaks}
+use Rattle.draw_tables.specs.Passes.{IsJudgement, first_not_once, first_pair}
 use Rattle.draw_tables.specs.Tables.{IsPairTableOf}
 use Rattle.draw_tables.specs.Verdicts.{times_given, team_at, IsNotGivenOnce, HaveOneLetter, HaveOneTag, IsBrokenPairing, IsNotAfter, IsFirstBroken, LegalWhereNoneBroken, NoneBrokenWhereLegal, OneFirstBroken}
-use Rattle.draw_tables.proofs.Counts.{same_item}
-use Rattle.draw_tables.proofs.InOrder.{pot_in_order, pot_at_most, once}
-use Rattle.draw_tables.proofs.Cases.{IsFirstNotOnce, IsFirstPair, all_once, found_not_once, no_pair, found_pair, letters_broken, tags_broken, letters_break, tags_break, KeepsRule, legal_by, legal_keeps}
+use Rattle.draw_tables.proofs.Lists.{same_item}
+use Rattle.draw_tables.proofs.PotOrder.{pot_in_order, pot_at_most, once}
+use Rattle.draw_tables.proofs.RuleCases.{IsFirstNotOnce, IsFirstPair, all_once, found_not_once, no_pair, found_pair, letters_broken, tags_broken, letters_break, tags_break, KeepsRule, legal_by, legal_keeps}
 
 -- ---- laws
 
@@ -63,13 +63,8 @@ module _ (file : DrawFile) (table : List TeamId) (rule first : ℕ) where
       ap (λ x. x.0) (same_item (team_at a) (team_at b) (sym here ∙ h.2))
 
   one_second : (a b : ℕ) → IsBrokenPairing file table rule first a → IsBrokenPairing file table rule first b → a ≡ b
-  one_second a b g h = go (is_one rule)
+  one_second a b g h = go (cases_eq rule 1)
     where
-      is_one : (n : ℕ) → (n ≡ 1) ⊎ (n ≢ 1)
-      is_one zero = inr (λ e. omega arith)
-      is_one (suc zero) = inl refl
-      is_one (suc (suc n)) = inr (λ e. omega arith)
-
       go : (rule ≡ 1) ⊎ (rule ≢ 1) → a ≡ b
       go (inl one) = by_count a g one ∙ sym (by_count b h one)
       go (inr more) = one_opponent a b (by_pair a g more) (by_pair b h more)
@@ -220,6 +215,7 @@ judgement_of file table rule first second verdict is h = record {
 
 -- the verdict after each pass, and after all
 module _ (file : DrawFile) (table : List TeamId) where
+  -- the verdict where a pass found something, and where none did
   pub judged_1 : (found : TeamId × ℕ) (verdict : Verdict)
       → first_not_once table (winners file) ≡ Some found → verdict ≡ Broken 1 found.0.0 found.1 → IsJudgement file (pairs_of table) verdict
   judged_1 (w, n) verdict e v = judgement_of file (pairs_of table) 1 w.0 n verdict v (first_of_rule_1 file table w n e)
