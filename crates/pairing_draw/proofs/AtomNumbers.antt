@@ -3,17 +3,20 @@ use Rattle.std.proofs.Common.{◌≡◌, ℕ, zero, suc, ◌+◌, ◌*◌, ◌<�
 use Rattle.std.specs.Prelude.{count_by}
 use Rattle.std.specs.List.{range_with_len, AllByRecursion as Each}
 use Rattle.std.proofs.Math.Nat.{mul-le-mul_left}
+use Rattle.std.proofs.lemmas.Bool.{cases_order, cases_Bool}
 use Rattle.std.proofs.lemmas.List.FromFn.{map-range_with_len_more}
 use Rattle.team_files.specs.Heads.{most_teams}
 use Rattle.count_core.proofs.Lists.{count_cons}
 
 -- ---- atoms
 
+-- an atom is one of the problem's
 pub atom_within : (m n r w : ℕ) → r < m → w < n → r * n + w < m * n
 atom_within m n r w in_m in_n =
     let h : n * (r + 1) ≤ n * m = mul-le-mul_left n (omega arith) in
     omega arith
 
+-- the pairs of few runners-up and few winners are few
 pub small_product : (m n : ℕ) → m ≤ most_teams → n ≤ most_teams → m * n ≤ most_teams * most_teams
 small_product m n few_m few_n =
     let h : m * n ≤ m * most_teams = mul-le-mul_left m few_n in
@@ -24,28 +27,18 @@ rows_apart n r s w v before in_n e =
     let h : n * (r + 1) ≤ n * s = mul-le-mul_left n (omega arith) in
     absurd (omega arith)
 
-pub order : (a b : ℕ) → (a < b) ⊎ ((a ≡ b) ⊎ (b < a))
-order zero zero = inr (inl refl)
-order zero (suc b) = inl (omega arith)
-order (suc a) zero = inr (inr (omega arith))
-order (suc a) (suc b) = up (order a b)
-  where
-    up : (a < b) ⊎ ((a ≡ b) ⊎ (b < a)) → (suc a < suc b) ⊎ ((suc a ≡ suc b) ⊎ (suc b < suc a))
-    up (inl lt) = inl (omega arith)
-    up (inr (inl e)) = inr (inl (ap suc e))
-    up (inr (inr gt)) = inr (inr (omega arith))
-
 -- an atom is of one runner-up and one winner
 pub same_atom : (n r s w v : ℕ) → w < n → v < n → r * n + w ≡ s * n + v → (r ≡ s) × (w ≡ v)
-same_atom n r s w v in_w in_v e = by_cases (order r s)
+same_atom n r s w v in_w in_v e = by_cases (cases_order r s)
   where
-    by_cases : (r < s) ⊎ ((r ≡ s) ⊎ (s < r)) → (r ≡ s) × (w ≡ v)
-    by_cases (inl lt) = absurd (rows_apart n r s w v lt in_w e)
-    by_cases (inr (inl q)) = let p : r * n ≡ s * n = ap (λ x. x * n) q in (q, omega arith)
+    by_cases : (r ≡ s) ⊎ ((r < s) ⊎ (s < r)) → (r ≡ s) × (w ≡ v)
+    by_cases (inl q) = let p : r * n ≡ s * n = ap (λ x. x * n) q in (q, omega arith)
+    by_cases (inr (inl lt)) = absurd (rows_apart n r s w v lt in_w e)
     by_cases (inr (inr gt)) = absurd (rows_apart n s r v w gt in_v (sym e))
 
 -- ---- lists over numbers
 
+-- one number more
 pub numbers_more : {X : Type 0} (f : ℕ → X) (n : ℕ) → map f (range_with_len 0 (n + 1)) ≡ map f (range_with_len 0 n) ++ f n ∷ []
 numbers_more f n = map-range_with_len_more f 0 n n (omega arith)
 
@@ -56,11 +49,11 @@ module _ {X : Type 0} (f : ℕ → X) where
 
   number_each : (P : X → Type 0) (a n : ℕ) → Each P (map f (range_with_len a n)) → (j : ℕ) → a ≤ j → j < a + n → P (f j)
   number_each P a zero h j low high = absurd (omega arith)
-  number_each P a (suc n) h j low high = by_cases (order a j) (number_each P (a + 1) n h.1 j)
+  number_each P a (suc n) h j low high = by_cases (cases_order a j) (number_each P (a + 1) n h.1 j)
     where
-      by_cases : (a < j) ⊎ ((a ≡ j) ⊎ (j < a)) → (a + 1 ≤ j → j < a + 1 + n → P (f j)) → P (f j)
-      by_cases (inl lt) rest = rest (omega arith) (omega arith)
-      by_cases (inr (inl e)) rest = subst (λ k. P (f k)) e h.0
+      by_cases : (a ≡ j) ⊎ ((a < j) ⊎ (j < a)) → (a + 1 ≤ j → j < a + 1 + n → P (f j)) → P (f j)
+      by_cases (inr (inl lt)) rest = rest (omega arith) (omega arith)
+      by_cases (inl e) rest = subst (λ k. P (f k)) e h.0
       by_cases (inr (inr gt)) rest = absurd (omega arith)
 
   number_at : (a n k : ℕ) (x : X) → slice_get (map f (range_with_len a n)) k ≡ Some x → (k < n) × (x ≡ f (a + k))
@@ -83,10 +76,6 @@ module _ {X : Type 0} (f : ℕ → X) where
 
 -- ---- how many pass a test
 
-either : (b : Bool) → (b ≡ true) ⊎ (b ≡ false)
-either true = inl refl
-either false = inr refl
-
 module _ {X : Type 0} (p : X → Bool) (f : ℕ → X) where
   abbrev pub number : ℕ → ℕ → ℕ
   number a n = count_by p (map f (range_with_len a n))
@@ -99,7 +88,7 @@ module _ {X : Type 0} (p : X → Bool) (f : ℕ → X) where
 
   none_true : (a n : ℕ) → ((j : ℕ) → a ≤ j → j < a + n → p (f j) ≡ true → ⊥) → number a n ≡ 0
   none_true a zero h = refl
-  none_true a (suc n) h = by_cases (either (p (f a))) (none_true (a + 1) n (λ j low high. h j (omega arith) (omega arith)))
+  none_true a (suc n) h = by_cases (cases_Bool (p (f a))) (none_true (a + 1) n (λ j low high. h j (omega arith) (omega arith)))
     where
       by_cases : (p (f a) ≡ true) ⊎ (p (f a) ≡ false) → number (a + 1) n ≡ 0 → number a (suc n) ≡ 0
       by_cases (inl e) rest = absurd (h a (omega arith) (omega arith) e)
@@ -107,12 +96,12 @@ module _ {X : Type 0} (p : X → Bool) (f : ℕ → X) where
 
   none_found : (a n : ℕ) → number a n ≡ 0 → (j : ℕ) → a ≤ j → j < a + n → p (f j) ≡ true → ⊥
   none_found a zero h j low high e = absurd (omega arith)
-  none_found a (suc n) h j low high e = by_cases (either (p (f a))) (order a j) (λ g down. none_found (a + 1) n g j down (omega arith) e)
+  none_found a (suc n) h j low high e = by_cases (cases_Bool (p (f a))) (cases_order a j) (λ g down. none_found (a + 1) n g j down (omega arith) e)
     where
-      by_cases : (p (f a) ≡ true) ⊎ (p (f a) ≡ false) → (a < j) ⊎ ((a ≡ j) ⊎ (j < a)) → (number (a + 1) n ≡ 0 → a + 1 ≤ j → ⊥) → ⊥
+      by_cases : (p (f a) ≡ true) ⊎ (p (f a) ≡ false) → (a ≡ j) ⊎ ((a < j) ⊎ (j < a)) → (number (a + 1) n ≡ 0 → a + 1 ≤ j → ⊥) → ⊥
       by_cases (inl is) o rest = let s = number_yes a n is in absurd (omega arith)
-      by_cases (inr isnt) (inl lt) rest = rest (sym (number_no a n isnt) ∙ h) (omega arith)
-      by_cases (inr isnt) (inr (inl s)) rest = let t : p (f a) ≡ true = subst (λ x. p (f x) ≡ true) (sym s) e in cc
+      by_cases (inr isnt) (inr (inl lt)) rest = rest (sym (number_no a n isnt) ∙ h) (omega arith)
+      by_cases (inr isnt) (inl s) rest = let t : p (f a) ≡ true = subst (λ x. p (f x) ≡ true) (sym s) e in cc
       by_cases (inr isnt) (inr (inr gt)) rest = absurd (omega arith)
 
   -- one of the numbers passes, and no other
@@ -125,35 +114,35 @@ module _ {X : Type 0} (p : X → Bool) (f : ℕ → X) where
 
   one_true : (a n : ℕ) → One a n → number a n ≡ 1
   one_true a zero one = let l = one.low in let h = one.high in absurd (omega arith)
-  one_true a (suc n) one = by_cases (either (p (f a))) (order a one.at) (λ g. one_true (a + 1) n g)
+  one_true a (suc n) one = by_cases (cases_Bool (p (f a))) (cases_order a one.at) (λ g. one_true (a + 1) n g)
     where
-      by_cases : (p (f a) ≡ true) ⊎ (p (f a) ≡ false) → (a < one.at) ⊎ ((a ≡ one.at) ⊎ (one.at < a)) → (One (a + 1) n → number (a + 1) n ≡ 1) → number a (suc n) ≡ 1
+      by_cases : (p (f a) ≡ true) ⊎ (p (f a) ≡ false) → (a ≡ one.at) ⊎ ((a < one.at) ⊎ (one.at < a)) → (One (a + 1) n → number (a + 1) n ≡ 1) → number a (suc n) ≡ 1
       by_cases (inl is) o rest =
           let first : a ≡ one.at = one.only a (omega arith) (omega arith) is in
           let none = none_true (a + 1) n (λ j down up t. let s = one.only j (omega arith) (omega arith) t in absurd (omega arith)) in
           number_yes a n is ∙ ap (λ x. 1 + x) none
-      by_cases (inr isnt) (inl lt) rest = number_no a n isnt ∙ rest (record {
+      by_cases (inr isnt) (inr (inl lt)) rest = number_no a n isnt ∙ rest (record {
         at = one.at;
         low = omega arith;
         high = (let h = one.high in omega arith);
         passes = one.passes;
         only = λ j down up t. one.only j (omega arith) (omega arith) t;
       })
-      by_cases (inr isnt) (inr (inl s)) rest = let t : p (f a) ≡ true = subst (λ x. p (f x) ≡ true) (sym s) one.passes in cc
+      by_cases (inr isnt) (inl s) rest = let t : p (f a) ≡ true = subst (λ x. p (f x) ≡ true) (sym s) one.passes in cc
       by_cases (inr isnt) (inr (inr gt)) rest = let l = one.low in absurd (omega arith)
 
   one_found : (a n : ℕ) → number a n ≡ 1 → One a n
   one_found a zero h = absurd (omega arith)
-  one_found a (suc n) h = by_cases (either (p (f a))) (λ g. one_found (a + 1) n g)
+  one_found a (suc n) h = by_cases (cases_Bool (p (f a))) (λ g. one_found (a + 1) n g)
     where
-      first : p (f a) ≡ true → (j : ℕ) → a ≤ j → j < a + suc n → p (f j) ≡ true → (a < j) ⊎ ((a ≡ j) ⊎ (j < a)) → j ≡ a
-      first is j down up t (inl lt) = let s = number_yes a n is in absurd (none_found (a + 1) n (omega arith) j (omega arith) (omega arith) t)
-      first is j down up t (inr (inl e)) = sym e
+      first : p (f a) ≡ true → (j : ℕ) → a ≤ j → j < a + suc n → p (f j) ≡ true → (a ≡ j) ⊎ ((a < j) ⊎ (j < a)) → j ≡ a
+      first is j down up t (inr (inl lt)) = let s = number_yes a n is in absurd (none_found (a + 1) n (omega arith) j (omega arith) (omega arith) t)
+      first is j down up t (inl e) = sym e
       first is j down up t (inr (inr gt)) = absurd (omega arith)
 
-      later : p (f a) ≡ false → (rest : One (a + 1) n) → (j : ℕ) → a ≤ j → j < a + suc n → p (f j) ≡ true → (a < j) ⊎ ((a ≡ j) ⊎ (j < a)) → j ≡ rest.at
-      later isnt rest j down up t (inl lt) = rest.only j (omega arith) (omega arith) t
-      later isnt rest j down up t (inr (inl s)) = let q : p (f a) ≡ true = subst (λ x. p (f x) ≡ true) (sym s) t in cc
+      later : p (f a) ≡ false → (rest : One (a + 1) n) → (j : ℕ) → a ≤ j → j < a + suc n → p (f j) ≡ true → (a ≡ j) ⊎ ((a < j) ⊎ (j < a)) → j ≡ rest.at
+      later isnt rest j down up t (inr (inl lt)) = rest.only j (omega arith) (omega arith) t
+      later isnt rest j down up t (inl s) = let q : p (f a) ≡ true = subst (λ x. p (f x) ≡ true) (sym s) t in cc
       later isnt rest j down up t (inr (inr gt)) = absurd (omega arith)
 
       by_cases : (p (f a) ≡ true) ⊎ (p (f a) ≡ false) → (number (a + 1) n ≡ 1 → One (a + 1) n) → One a (suc n)
@@ -162,7 +151,7 @@ module _ {X : Type 0} (p : X → Bool) (f : ℕ → X) where
         low = omega arith;
         high = omega arith;
         passes = is;
-        only = λ j down up t. first is j down up t (order a j);
+        only = λ j down up t. first is j down up t (cases_order a j);
       }
       by_cases (inr isnt) rest =
           let found = rest (sym (number_no a n isnt) ∙ h) in
@@ -173,7 +162,7 @@ module _ {X : Type 0} (p : X → Bool) (f : ℕ → X) where
             low = omega arith;
             high = omega arith;
             passes = found.passes;
-            only = λ j down up t. later isnt found j down up t (order a j);
+            only = λ j down up t. later isnt found j down up t (cases_order a j);
           }
 
   -- the same for the numbers below n
@@ -183,6 +172,7 @@ module _ {X : Type 0} (p : X → Bool) (f : ℕ → X) where
     pub passes : p (f at) ≡ true
     pub only : (j : ℕ) → j < n → p (f j) ≡ true → j ≡ at
 
+  -- exactly one passes where one is counted, and the other way round
   pub one_below : (n : ℕ) → OneBelow n → number 0 n ≡ 1
   one_below n one = one_true 0 n (record {
     at = one.at;

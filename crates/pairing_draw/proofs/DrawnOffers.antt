@@ -9,10 +9,11 @@ use Rattle.draw_tables.specs.declared.moves.Move.TheVariants.{Drawn}
 use Rattle.draw_tables.specs.declared.moves.Phase.{Phase}
 use Rattle.draw_tables.specs.declared.moves.Phase.TheVariants.{Runner, Opponent, Complete}
 use Rattle.draw_tables.specs.declared.table.Table.{Table}
-use Rattle.draw_tables.specs.Pots.{IsAmong}
+use Rattle.draw_tables.specs.Lists.{IsAmong}
 use Rattle.draw_tables.specs.States.{phase_of, candidates, candidates_in, move_in}
 use Rattle.draw_tables.specs.Offers.{Extends, IsCompletable, IsPossible, IsOffer}
-use Rattle.pairing_draw.proofs.Picking.{pick_all, pick_none}
+use Rattle.draw_tables.proofs.Lists.{none_among}
+use Rattle.pairing_draw.proofs.OfferSteps.{pick_all, pick_none}
 
 with_drawn : (file : DrawFile) (table : Table) (t : TeamId) (ms : List Move) → Extends file table ms → Extends file table (ms ++ Drawn t ∷ [])
 with_drawn file table t [] h = (tt, tt)
@@ -31,16 +32,14 @@ pub drawn_by : (file : DrawFile) (ms : List Move) (p : Phase) → ((r : TeamId) 
     → (c : Choice) → IsAmong (candidates_in file ms p) c → (t : TeamId) × (move_in p c ≡ Some (Drawn t))
 drawn_by file ms Runner other (Team t) among = (t, refl)
 drawn_by file ms (Opponent r) other c among = absurd (other r refl)
-drawn_by file ms Complete other c among = absurd (none among.0 among.1)
-  where
-    none : (k : ℕ) → slice_get [] k ≡ Some c → ⊥
-    none k e = cc
+drawn_by file ms Complete other c among = absurd (none_among c among)
 
 -- where each candidate's move is that a team is drawn, each is possible exactly where the moves can be completed
 module _ (file : DrawFile) (ms : List Move) (draws : (c : Choice) → IsAmong (candidates file ms) c → (t : TeamId) × (move_in (phase_of file ms) c ≡ Some (Drawn t))) where
   possible : IsCompletable file ms → (c : Choice) → IsAmong (candidates file ms) c → IsPossible file ms c
   possible h c among = let d = draws c among in (Drawn d.0, (among, d.1), (h.0, h.1, with_drawn file h.0 d.0 ms h.2))
 
+  -- all candidates are offered, or none
   pub all_offered : IsCompletable file ms → IsOffer file ms (candidates file ms)
   all_offered h = pick_all (IsPossible file ms) (candidates file ms) (possible h)
 

@@ -1,6 +1,7 @@
 -- A table that is read off values that satisfy the rules is legal and extends the moves.
 use Rattle.std.proofs.Common.{◌≡◌, ℕ, zero, suc, ◌+◌, ◌<◌, Bool, true, false, cond, not, List, [], ◌∷◌, ◌++◌, length, map, Some, slice_get, refl, sym, ap, ◌∙◌, arith, ◌⊎◌, inl, inr, length-append}
 use Rattle.std.specs.List.{range_with_len, enumerate_from, flat_map, AllByRecursion as Each}
+use Rattle.std.proofs.lemmas.Option.{slice_get_within}
 use Rattle.team_files.specs.declared.kind.Kind.{Kind}
 use Rattle.team_files.specs.declared.team_id.TeamId.{TeamId}
 use Rattle.rule_sets.specs.Files.{DrawFile}
@@ -13,13 +14,15 @@ use Rattle.draw_tables.specs.Pots.{winners, runners_up, AreTeamsOf}
 use Rattle.draw_tables.specs.Pairings.{may_meet, GivesOpponent, IsLegalPairing}
 use Rattle.draw_tables.specs.States.{IsState}
 use Rattle.draw_tables.specs.Offers.{Extends}
-use Rattle.pairing_draw.specs.Encoding.{IsRead, atom_of, pair_lit, never, exactly_one, row_rule, column_rule, bans_of, rules_of, place_of, lits_of_moves}
+use Rattle.draw_tables.proofs.Lists.{same_item, item_at}
+use Rattle.draw_tables.proofs.PairRules.{rules_kept}
+use Rattle.pairing_draw.specs.Encoding.{IsRead, IsTrueWinner, HasTrueAtom, atom_of, pair_lit, never, exactly_one, row_rule, column_rule, bans_of, rules_of, place_of, lits_of_moves}
 use Rattle.pairing_draw.specs.Correspondence.{ValuesComplete}
-use Rattle.pairing_draw.proofs.Distinct.{pot_once, pot_team}
-use Rattle.pairing_draw.proofs.Numbers.{OneBelow, below_one, below_each}
-use Rattle.pairing_draw.proofs.Pieces.{each_split, place_of_each, joined_each, place_found}
+use Rattle.draw_tables.proofs.PotOrder.{pot_once, pot_team}
+use Rattle.pairing_draw.proofs.AtomNumbers.{OneBelow, below_one, below_each}
+use Rattle.pairing_draw.proofs.PlacedLists.{each_split, place_of_each, joined_each, place_found}
 use Rattle.pairing_draw.proofs.StateMoves.{IsKnown, state_known}
-use Rattle.pairing_draw.proofs.Tables.{entry, within, same_entry, rules_kept, pair_table}
+use Rattle.pairing_draw.proofs.WinnerRanks.{pair_table}
 
 -- ---- what a satisfied rule says
 
@@ -65,7 +68,7 @@ module _ (file : DrawFile) (values : List Bool) (satisfied : Satisfies values (r
       by_cases false h = absurd (h refl)
 
   -- each runner-up has a true atom
-  pub row_true : (r : ℕ) → r < m → (w : ℕ) × (w < n) × (value_of values (atom_of n r w) ≡ true)
+  pub row_true : (r : ℕ) → r < m → HasTrueAtom values n r
   row_true r lt = let one = row r lt in (one.at, one.within, one.passes)
 
   module _ (table : List TeamId) (read : IsRead values m (winners file) table) where
@@ -73,10 +76,10 @@ module _ (file : DrawFile) (values : List Bool) (satisfied : Satisfies values (r
     given_is : (r w : ℕ) (winner : TeamId) → r < m → slice_get (winners file) w ≡ Some winner → makes_true values (pair_lit n r w) ≡ true → slice_get table r ≡ Some winner
     given_is r w winner lt e t =
         let size = read.size in
-        let given = entry table r (omega arith) in
+        let given = item_at table r (omega arith) in
         let a = read.atoms r given.0 given.1 in
         let one = row r lt in
-        let here : a.0 ≡ w = one.only a.0 (within (winners file) a.0 given.0 a.1) a.2 ∙ sym (one.only w (within (winners file) w winner e) t) in
+        let here : a.0 ≡ w = one.only a.0 (slice_get_within (winners file) a.0 given.0 a.1) a.2 ∙ sym (one.only w (slice_get_within (winners file) w winner e) t) in
         given.1 ∙ sym a.1 ∙ ap (slice_get (winners file)) here ∙ e
 
     meets : (runner winner : TeamId) → GivesOpponent file table runner winner → may_meet file runner winner ≡ true
@@ -84,21 +87,22 @@ module _ (file : DrawFile) (values : List Bool) (satisfied : Satisfies values (r
         let a = read.atoms gives.0 winner gives.2 in
         may gives.0 a.0 runner winner gives.1 a.1 a.2
 
+    -- what is read is legal
     pub legal : IsLegalPairing file table
     legal = record {
       size = read.size;
       nobody_else = λ w among. let a = read.atoms among.0 w among.1 in (a.0, a.1);
       given = λ w among.
-          let one = column among.0 (within (winners file) among.0 w among.1) in
+          let one = column among.0 (slice_get_within (winners file) among.0 w among.1) in
           (one.at, given_is one.at among.0 w one.within among.1 one.passes);
       once = λ i j w e f.
           let size = read.size in
-          let in_i = within table i w e in
-          let in_j = within table j w f in
+          let in_i = slice_get_within table i w e in
+          let in_j = slice_get_within table j w f in
           let a = read.atoms i w e in
           let b = read.atoms j w f in
           let same = pot_once 1 file b.0 a.0 w b.1 a.1 in
-          let one = column a.0 (within (winners file) a.0 w a.1) in
+          let one = column a.0 (slice_get_within (winners file) a.0 w a.1) in
           one.only i (omega arith) a.2 ∙ sym (one.only j (omega arith) (ap (λ x. value_of values (atom_of n j x)) (sym same) ∙ b.2));
       letters = λ r w a b gives is_r is_w. (rules_kept file r w a b is_r is_w (meets r w gives)).0;
       tags = λ r w a b gives is_r is_w. (rules_kept file r w a b is_r is_w (meets r w gives)).1;
@@ -115,10 +119,11 @@ module _ (file : DrawFile) (values : List Bool) (satisfied : Satisfies values (r
     extended (Paired r w ∷ ms) h g =
         let is_r = place_found r (runners_up file) h.0.0.0 h.0.0.1 in
         let is_w = place_found w (winners file) h.0.1.0 h.0.1.1 in (
-          (place_of r (runners_up file), is_r, given_is (place_of r (runners_up file)) (place_of w (winners file)) w (within (runners_up file) (place_of r (runners_up file)) r is_r) is_w g.0),
+          (place_of r (runners_up file), is_r, given_is (place_of r (runners_up file)) (place_of w (winners file)) w (slice_get_within (runners_up file) (place_of r (runners_up file)) r is_r) is_w g.0),
           extended ms h.1 g.1,
         )
 
+    -- and extends the moves
     pub extends : (ms : List Move) → file.kind ≡ Kind.Pairing → IsState file ms → SatisfiesQuestion values (lits_of_moves file ms) → Extends file (pair_table table) ms
     extends ms kind state g = extended ms (state_known file kind ms state) g
 
@@ -135,14 +140,16 @@ list_of {A} P (suc m) h =
     at y here ys later zero x e = let s : y ≡ x = cc in rw (← s) here
     at y here ys later (suc r) x e = later r x e
 
-pub some_read : (values : List Bool) (m : ℕ) (ws : List TeamId) → ((r : ℕ) → r < m → (w : ℕ) × (w < length ws) × (value_of values (atom_of (length ws) r w) ≡ true)) → (table : List TeamId) × IsRead values m ws table
+-- where each runner-up has a true atom, some table is read
+pub some_read : (values : List Bool) (m : ℕ) (ws : List TeamId) → ((r : ℕ) → r < m → HasTrueAtom values (length ws) r) → (table : List TeamId) × IsRead values m ws table
 some_read values m ws h =
-    let made = list_of (λ r given. (w : ℕ) × (slice_get ws w ≡ Some given) × (value_of values (atom_of (length ws) r w) ≡ true)) m (λ r lt.
+    let made = list_of (λ r given. IsTrueWinner values ws r given) m (λ r lt.
     let w = h r lt in
-    let given = entry ws w.0 w.1 in
+    let given = item_at ws w.0 w.1 in
     (given.0, (w.0, given.1, w.2)))
     in (made.0, record { size = made.1; atoms = made.2 })
 
+-- values that meet the rules and a state's moves complete it
 pub values_complete : ValuesComplete
 values_complete file ms values kind state meets =
     let table = some_read values (length (runners_up file)) (winners file) (row_true file values meets.rules) in
@@ -151,23 +158,25 @@ values_complete file ms values kind state meets =
 -- a table that is read off gives teams of the file
 known : (file : DrawFile) (ws : List TeamId) (k : ℕ) (x : TeamId) → AreTeamsOf file ws → slice_get ws k ≡ Some x → x.0 < length file.teams
 known file [] k x h e = cc
-known file (w ∷ ws) zero x h e = let s = same_entry w x e in rw (← s) h.0
+known file (w ∷ ws) zero x h e = let s = same_item w x e in rw (← s) h.0
 known file (w ∷ ws) (suc k) x h e = known file ws k x h.1 e
 
 are_teams : (file : DrawFile) (xs : List TeamId) → ((r : ℕ) (x : TeamId) → slice_get xs r ≡ Some x → x.0 < length file.teams) → AreTeamsOf file xs
 are_teams file [] h = tt
 are_teams file (x ∷ xs) h = (h 0 x refl, are_teams file xs (λ r y e. h (suc r) y e))
 
+-- so its teams are of the file
 pub read_teams : (file : DrawFile) (values : List Bool) (m : ℕ) (ws table : List TeamId) → AreTeamsOf file ws → IsRead values m ws table → AreTeamsOf file table
 read_teams file values m ws table h read = are_teams file table (λ r x e. let a = read.atoms r x e in known file ws a.0 x h a.1)
 
 -- ---- the reading, runner-up by runner-up
 
+-- none is read at first, and then one more
 pub read_none : (values : List Bool) (ws : List TeamId) → IsRead values 0 ws []
 read_none values ws = record { size = refl; atoms = λ r given e. cc }
 
 pub read_more : (values : List Bool) (m : ℕ) (ws table more : List TeamId) (given : TeamId) → IsRead values m ws table
-    → (w : ℕ) × (slice_get ws w ≡ Some given) × (value_of values (atom_of (length ws) m w) ≡ true)
+    → IsTrueWinner values ws m given
     → more ≡ table ++ given ∷ [] → IsRead values (m + 1) ws more
 read_more values m ws table more given read found push = rw push (record {
   size = (let s = read.size in let l = length-append table (given ∷ []) in omega arith);
@@ -175,7 +184,7 @@ read_more values m ws table more given read found push = rw push (record {
 })
   where
     at_push : (xs : List TeamId) (y : TeamId) (r : ℕ) (x : TeamId) → slice_get (xs ++ y ∷ []) r ≡ Some x → (slice_get xs r ≡ Some x) ⊎ ((r ≡ length xs) × (y ≡ x))
-    at_push [] y zero x e = inr (refl, same_entry y x e)
+    at_push [] y zero x e = inr (refl, same_item y x e)
     at_push [] y (suc r) x e = cc
     at_push (z ∷ xs) y zero x e = inl e
     at_push (z ∷ xs) y (suc r) x e = up (at_push xs y r x e)
@@ -184,7 +193,7 @@ read_more values m ws table more given read found push = rw push (record {
         up (inl h) = inl h
         up (inr h) = inr (ap suc h.0, h.1)
 
-    by_place : (r : ℕ) (x : TeamId) → slice_get (table ++ given ∷ []) r ≡ Some x → (slice_get table r ≡ Some x) ⊎ ((r ≡ length table) × (given ≡ x)) → (w : ℕ) × (slice_get ws w ≡ Some x) × (value_of values (atom_of (length ws) r w) ≡ true)
+    by_place : (r : ℕ) (x : TeamId) → slice_get (table ++ given ∷ []) r ≡ Some x → (slice_get table r ≡ Some x) ⊎ ((r ≡ length table) × (given ≡ x)) → IsTrueWinner values ws r x
     by_place r x e (inl h) = read.atoms r x h
     by_place r x e (inr h) =
         let s = read.size in

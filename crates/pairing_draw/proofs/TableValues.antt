@@ -3,7 +3,8 @@ use Rattle.std.proofs.Common.{◌≡◌, ℕ, ◌+◌, ◌<◌, Bool, true, fals
 use Rattle.std.specs.Prelude.{◌==◌}
 use Rattle.std.specs.List.{range_with_len, enumerate_from, flat_map}
 use Rattle.std.proofs.lemmas.List.{length-map}
-use Rattle.std.proofs.lemmas.Option.{get_or_from_slice_get}
+use Rattle.std.proofs.lemmas.Bool.{eqb-true, eq-eqb}
+use Rattle.std.proofs.lemmas.Option.{get_or_from_slice_get, slice_get_within}
 use Rattle.team_files.specs.declared.team_id.TeamId.{TeamId}
 use Rattle.rule_sets.specs.Files.{DrawFile}
 use Rattle.count_core.specs.declared.lit.Lit.{Lit}
@@ -15,12 +16,15 @@ use Rattle.draw_tables.specs.declared.table.Table.TheVariants.{Pairs}
 use Rattle.draw_tables.specs.Pots.{winners, runners_up}
 use Rattle.draw_tables.specs.Pairings.{may_meet, IsLegalPairing}
 use Rattle.draw_tables.specs.Offers.{Extends}
+use Rattle.draw_tables.proofs.Lists.{item_at}
+use Rattle.draw_tables.proofs.Numbers.{same_id}
+use Rattle.draw_tables.proofs.PairRules.{may_meet_by}
 use Rattle.pairing_draw.specs.Encoding.{atom_of, pair_lit, never, exactly_one, row_rule, column_rule, bans_of, rules_of, values_of_winners, place_of, lits_of_moves}
 use Rattle.pairing_draw.specs.Correspondence.{TablesSatisfy, ValuesTellPairs}
-use Rattle.pairing_draw.proofs.Distinct.{pot_once, pot_team}
-use Rattle.pairing_draw.proofs.Numbers.{OneBelow, one_below, each_below}
-use Rattle.pairing_draw.proofs.Pieces.{each_append, each_of_places, each_joined, get_joined, place_found}
-use Rattle.pairing_draw.proofs.Tables.{entry, within, map_at, same_id, equal, is_equal, may_meet_by, pair_table}
+use Rattle.draw_tables.proofs.PotOrder.{pot_once, pot_team}
+use Rattle.pairing_draw.proofs.AtomNumbers.{OneBelow, one_below, each_below}
+use Rattle.pairing_draw.proofs.PlacedLists.{each_append, each_of_places, each_joined, get_joined, place_found}
+use Rattle.pairing_draw.proofs.WinnerRanks.{map_at, pair_table}
 
 -- a rule that one of the literals is true
 pub one_satisfies : (values : List Bool) (lit : ℕ → Lit) (n : ℕ) → OneBelow (makes_true values) lit n → SatisfiesRule values (exactly_one (map lit (range_with_len 0 n)))
@@ -28,10 +32,6 @@ one_satisfies values lit n one = let h = one_below (makes_true values) lit n one
 
 never_satisfies : (values : List Bool) (l : Lit) → makes_true values l ≡ false → SatisfiesRule values (never l)
 never_satisfies values l e = let h = count_cons (makes_true values) l [] ∙ ap (λ b. cond b 1 0 + 0) e in (omega arith, omega arith)
-
-either : (b : Bool) → (b ≡ true) ⊎ (b ≡ false)
-either true = inl refl
-either false = inr refl
 
 -- the value of an atom says whether the table gives the runner-up that winner
 values_at : (file : DrawFile) (table : List TeamId) (r w : ℕ) (given winner : TeamId) → slice_get table r ≡ Some given → slice_get (winners file) w ≡ Some winner
@@ -52,23 +52,23 @@ module _ (file : DrawFile) (table : List TeamId) where
   n = length (winners file)
 
   value_is : (r w : ℕ) (given winner : TeamId) → slice_get table r ≡ Some given → slice_get (winners file) w ≡ Some winner → makes_true values (pair_lit n r w) ≡ true → winner ≡ given
-  value_is r w given winner e f t = same_id winner given (is_equal winner.0 given.0 (sym (values_at file table r w given winner e f) ∙ t))
+  value_is r w given winner e f t = same_id winner given (eqb-true winner.0 given.0 (sym (values_at file table r w given winner e f) ∙ t))
 
   is_value : (r w : ℕ) (winner : TeamId) → slice_get table r ≡ Some winner → slice_get (winners file) w ≡ Some winner → makes_true values (pair_lit n r w) ≡ true
-  is_value r w winner e f = values_at file table r w winner winner e f ∙ equal winner.0 winner.0 refl
+  is_value r w winner e f = values_at file table r w winner winner e f ∙ eq-eqb winner.0 winner.0 refl
 
   module _ (legal : IsLegalPairing file table) where
     row : (r : ℕ) → r < m → OneBelow (makes_true values) (λ w. pair_lit n r w) n
     row r lt =
         let size = legal.size in
-        let given = entry table r (omega arith) in
+        let given = item_at table r (omega arith) in
         let k = legal.nobody_else given.0 (r, given.1) in
         record {
           at = k.0;
-          within = within (winners file) k.0 given.0 k.1;
+          within = slice_get_within (winners file) k.0 given.0 k.1;
           passes = is_value r k.0 given.0 given.1 k.1;
           only = λ j below t.
-              let v = entry (winners file) j below in
+              let v = item_at (winners file) j below in
               let same = value_is r j given.0 v.0 given.1 v.1 t in
               pot_once 1 file j k.0 given.0 (v.1 ∙ ap Some same) k.1;
         }
@@ -76,15 +76,15 @@ module _ (file : DrawFile) (table : List TeamId) where
     column : (w : ℕ) → w < n → OneBelow (makes_true values) (λ r. pair_lit n r w) m
     column w lt =
         let size = legal.size in
-        let v = entry (winners file) w lt in
+        let v = item_at (winners file) w lt in
         let i = legal.given v.0 (w, v.1) in
-        let below = within table i.0 v.0 i.1 in
+        let below = slice_get_within table i.0 v.0 i.1 in
         record {
           at = i.0;
           within = omega arith;
           passes = is_value i.0 w v.0 i.1 v.1;
           only = λ j in_m t.
-              let g = entry table j (omega arith) in
+              let g = item_at table j (omega arith) in
               let same = value_is j w g.0 v.0 g.1 v.1 t in
               legal.once j i.0 v.0 (g.1 ∙ ap Some (sym same)) i.1;
         }
@@ -92,8 +92,8 @@ module _ (file : DrawFile) (table : List TeamId) where
     may : (r w : ℕ) (runner winner : TeamId) → slice_get (runners_up file) r ≡ Some runner → slice_get (winners file) w ≡ Some winner → makes_true values (pair_lit n r w) ≡ true → may_meet file runner winner ≡ true
     may r w runner winner e f t =
         let size = legal.size in
-        let lt = within (runners_up file) r runner e in
-        let given = entry table r (omega arith) in
+        let lt = slice_get_within (runners_up file) r runner e in
+        let given = item_at table r (omega arith) in
         let same = value_is r w given.0 winner given.1 f t in
         let gives : slice_get table r ≡ Some winner = given.1 ∙ ap Some (sym same) in
         let a = pot_team 2 file r runner e in
@@ -131,6 +131,7 @@ module _ (file : DrawFile) (table : List TeamId) where
           moves ms h.1,
         )
 
+-- the values of a legal table that extends the moves meet the rules and the moves
 pub tables_satisfy : TablesSatisfy
 tables_satisfy file ms (Pairs pairs) kind legal extends = record {
   rules = rules file pairs.winners legal.1;
@@ -142,8 +143,8 @@ pub values_tell : ValuesTellPairs
 values_tell file pairs r w runner_up winner of_file is_r is_w = (
   λ t.
       let size = of_file.size in
-      let lt = within (runners_up file) r runner_up is_r in
-      let given = entry pairs.winners r (omega arith) in
+      let lt = slice_get_within (runners_up file) r runner_up is_r in
+      let given = item_at pairs.winners r (omega arith) in
       let same = value_is file pairs.winners r w given.0 winner given.1 is_w t in
       (r, is_r, given.1 ∙ ap Some (sym same)),
   λ gives.

@@ -1,6 +1,7 @@
 -- The search's recursion finds the ranks that give each row a free one of its own and leave none.
 use Rattle.std.proofs.Common.{Bool, List, Some, [], ap, arith, false, inl, inr, length, refl, slice_get, suc, sym, true, zero, ℕ, ◌<◌, ◌∙◌, ◌∷◌, ◌≡◌, ◌⊎◌}
 use Rattle.std.specs.Prelude.{slice_set, replicate}
+use Rattle.draw_tables.proofs.Numbers.{same_number}
 use Rattle.pairing_draw.specs.Search.{AllTaken, Finishes}
 
 get_set : (p : List Bool) (a : ℕ) (x : Bool) (k : ℕ) → (k ≡ a → ⊥) → slice_get (slice_set p a x) k ≡ slice_get p k
@@ -17,6 +18,7 @@ free_before (o ∷ p) zero (suc k) e = (e, λ f. cc)
 free_before (o ∷ p) (suc a) zero e = (e, λ f. cc)
 free_before (o ∷ p) (suc a) (suc k) e = let r = free_before p a k e in (r.0, λ f. r.1 (omega arith))
 
+-- at first each rank below n is free
 pub free_within : (n k : ℕ) → slice_get (replicate n false) k ≡ Some false → k < n
 free_within zero k e = cc
 free_within (suc n) zero e = omega arith
@@ -40,16 +42,6 @@ none_left (false ∷ taken) n = absurd (n 0 refl)
 no_entry : (j k : ℕ) → slice_get [] j ≡ Some k → ⊥
 no_entry j k e = cc
 
-same : (a b : ℕ) → (a ≡ b) ⊎ (a ≡ b → ⊥)
-same zero zero = inl refl
-same zero (suc b) = inr (λ e. omega arith)
-same (suc a) zero = inr (λ e. omega arith)
-same (suc a) (suc b) = up (same a b)
-  where
-    up : (a ≡ b) ⊎ (a ≡ b → ⊥) → (suc a ≡ suc b) ⊎ (suc a ≡ suc b → ⊥)
-    up (inl e) = inl (ap suc e)
-    up (inr n) = inr (λ e. n (omega arith))
-
 -- each row has a rank of its own that fits and is free, and each free rank is given
 pub record Ranked (rows : List (List Bool)) (taken : List Bool) (ks : List ℕ) : Type 0 where
   pub size : length ks ≡ length rows
@@ -58,6 +50,7 @@ pub record Ranked (rows : List (List Bool)) (taken : List Bool) (ks : List ℕ) 
   pub free : (i k : ℕ) → slice_get ks i ≡ Some k → slice_get taken k ≡ Some false
   pub given : (k : ℕ) → slice_get taken k ≡ Some false → (i : ℕ) × (slice_get ks i ≡ Some k)
 
+-- ranks that finish are such, and the other way round
 pub ranked : (rows : List (List Bool)) (taken : List Bool) (ks : List ℕ) → Finishes rows taken ks → Ranked rows taken ks
 ranked [] taken [] h = record {
   size = refl;
@@ -75,7 +68,7 @@ ranked (row ∷ rows) taken (k ∷ ks) h =
       once = all_once rest;
       fits = all_fit rest;
       free = all_free rest;
-      given = λ x e. all_given rest x e (same x k);
+      given = λ x e. all_given rest x e (same_number x k);
     }
   where
     all_given : Ranked rows (slice_set taken k true) ks → (x : ℕ) → slice_get taken x ≡ Some false → (x ≡ k) ⊎ (x ≡ k → ⊥) → (i : ℕ) × (slice_get (k ∷ ks) i ≡ Some x)

@@ -2,8 +2,9 @@
 use Rattle.std.proofs.Common.{Bool, List, Some, [], ap, arith, false, length, refl, slice_get, sym, true, ℕ, ◌∙◌, ◌∷◌, ◌≡◌}
 use Rattle.std.specs.Prelude.{◌==◌, replicate}
 use Rattle.std.specs.List.{list_all, list_any}
-use Rattle.std.proofs.lemmas.Bool.{and_parts, and_from}
+use Rattle.std.proofs.lemmas.Bool.{and_parts, and_from, eqb-true, eq-eqb}
 use Rattle.std.proofs.lemmas.List.{length-map}
+use Rattle.std.proofs.lemmas.Option.{slice_get_within}
 use Rattle.team_files.specs.declared.kind.Kind.{Kind}
 use Rattle.team_files.specs.declared.team_id.TeamId.{TeamId}
 use Rattle.rule_sets.specs.Files.{DrawFile}
@@ -13,10 +14,13 @@ use Rattle.draw_tables.specs.declared.table.Table.TheVariants.{Pairs}
 use Rattle.draw_tables.specs.Pots.{winners, runners_up}
 use Rattle.draw_tables.specs.Pairings.{GivesOpponent, IsLegalPairing, may_meet}
 use Rattle.draw_tables.specs.Offers.{Extends, IsCompletable}
+use Rattle.draw_tables.proofs.Lists.{same_item, item_at}
+use Rattle.draw_tables.proofs.Numbers.{same_id}
+use Rattle.draw_tables.proofs.PairRules.{may_meet_by, rules_kept}
 use Rattle.pairing_draw.specs.Search.{Finishes, allows, fits, grid_of, names_runner, row_of}
-use Rattle.pairing_draw.proofs.Distinct.{pot_once, pot_team}
-use Rattle.pairing_draw.proofs.Ranks.{Ranked, ranked, finishes, free_within, within_free}
-use Rattle.pairing_draw.proofs.Tables.{HasRanks, any_at, any_found, entry, equal, is_equal, map_at, may_meet_by, pair_table, rank_at, ranks_of, rules_kept, same_entry, same_id, table_of, then_so, where_so, within}
+use Rattle.draw_tables.proofs.PotOrder.{pot_once, pot_team}
+use Rattle.pairing_draw.proofs.SearchRanks.{Ranked, ranked, finishes, free_within, within_free}
+use Rattle.pairing_draw.proofs.WinnerRanks.{HasRanks, any_at, any_found, map_at, pair_table, rank_at, ranks_of, table_of, then_so, where_so}
 
 -- ---- moves
 
@@ -29,10 +33,10 @@ extends file table (Drawn t ∷ ms) size named h = (tt, extends file table ms si
 extends file table (Paired s v ∷ ms) size named h =
     let parts = and_parts (list_any (λ t. t.0 == s.0) (runners_up file)) (list_all (names_runner (runners_up file)) ms) named in
     let found = any_found s (runners_up file) parts.0 in
-    let lt = within (runners_up file) found.0 s found.1 in
-    let w = entry table found.0 (omega arith) in
+    let lt = slice_get_within (runners_up file) found.0 s found.1 in
+    let w = item_at table found.0 (omega arith) in
     let kept = and_parts (allows s w.0 (Paired s v)) (list_all (allows s w.0) ms) (h found.0 s w.0 found.1 w.1) in
-    let same = is_equal v.0 w.0.0 (then_so (s.0 == s.0) (v.0 == w.0.0) (equal s.0 s.0 refl) kept.0) in (
+    let same = eqb-true v.0 w.0.0 (then_so (s.0 == s.0) (v.0 == w.0.0) (eq-eqb s.0 s.0 refl) kept.0) in (
       (found.0, found.1, w.1 ∙ ap Some (sym (same_id v w.0 same))),
       extends file table ms size parts.1 (λ i r x e f. (and_parts (allows r x (Paired s v)) (list_all (allows r x) ms) (h i r x e f)).1),
     )
@@ -45,10 +49,10 @@ allowed file table (Paired s v ∷ ms) h i r w e f = and_from (allows r w (Paire
   where
     same : (s.0 == r.0) ≡ true → (v.0 == w.0) ≡ true
     same is =
-        let one = same_id s r (is_equal s.0 r.0 is) in
+        let one = same_id s r (eqb-true s.0 r.0 is) in
         let place = pot_once 2 file h.0.0 i r (h.0.1 ∙ ap Some one) e in
         let given : slice_get table i ≡ Some v = rw (← place) h.0.2 in
-        equal v.0 w.0 (ap (λ t. t.0) (same_entry v w (sym given ∙ f)))
+        eq-eqb v.0 w.0 (ap (λ t. t.0) (same_item v w (sym given ∙ f)))
 
 -- moves that a table extends name runners-up
 named : (file : DrawFile) (table : List TeamId) (ms : List Move) → Extends file (pair_table table) ms → list_all (names_runner (runners_up file)) ms ≡ true
@@ -72,7 +76,7 @@ module _ (file : DrawFile) (ms : List Move) (ks : List ℕ) (table : List TeamId
       let row = map_at (row_of file ms (winners file)) (runners_up file) gives.0 r gives.1 in
       let fit = found.fits gives.0 (row_of file ms (winners file) r) k.0 row k.1 in
       let here = map_at (fits file ms r) (winners file) k.0 w k.2 in
-      and_parts (may_meet file r w) (list_all (allows r w) ms) (same_entry (fits file ms r w) true (sym here ∙ fit))
+      and_parts (may_meet file r w) (list_all (allows r w) ms) (same_item (fits file ms r w) true (sym here ∙ fit))
 
   table_size : length table ≡ length (runners_up file)
   table_size = ranks.size ∙ found.size ∙ length-map (runners_up file) (row_of file ms (winners file))
@@ -82,7 +86,7 @@ module _ (file : DrawFile) (ms : List Move) (ks : List ℕ) (table : List TeamId
     size = table_size;
     nobody_else = λ w among. let k = rank_at (winners file) ks table ranks among.0 w among.1 in (k.0, k.2);
     given = λ w among.
-        let i = found.given among.0 (within_free (length (winners file)) among.0 (within (winners file) among.0 w among.1)) in
+        let i = found.given among.0 (within_free (length (winners file)) among.0 (slice_get_within (winners file) among.0 w among.1)) in
         (i.0, ranks.at i.0 among.0 i.1 ∙ among.1);
     once = λ i j w e f.
         let a = rank_at (winners file) ks table ranks i w e in
@@ -101,6 +105,7 @@ module _ (file : DrawFile) (ms : List Move) (ks : List ℕ) (table : List TeamId
   completed : file.kind ≡ Kind.Pairing → list_all (names_runner (runners_up file)) ms ≡ true → IsCompletable file ms
   completed kind named = (pair_table table, (kind, legal), extends file table ms table_size named (λ i r w e f. (pair_fits r w (i, e, f)).1))
 
+-- ranks that the search finds complete the moves
 pub completes : (file : DrawFile) (ms : List Move) → file.kind ≡ Kind.Pairing → list_all (names_runner (runners_up file)) ms ≡ true
     → (ks : List ℕ) × Finishes (grid_of file ms (winners file) (runners_up file)) (replicate (length (winners file)) false) ks
     → IsCompletable file ms
@@ -122,29 +127,30 @@ module _ (file : DrawFile) (ms : List Move) (ks : List ℕ) (table : List TeamId
 
   all_fit : (i : ℕ) (row : List Bool) (k : ℕ) → slice_get (grid_of file ms (winners file) (runners_up file)) i ≡ Some row → slice_get ks i ≡ Some k → slice_get row k ≡ Some true
   all_fit i row k e f =
-      let w = entry (winners file) k (ranks.inside i k f) in
+      let w = item_at (winners file) k (ranks.inside i k f) in
       let stands = ranks.at i k f ∙ w.1 in
       let size = legal.size in
-      let lt = within table i w.0 stands in
-      let r = entry (runners_up file) i (omega arith) in
-      let is = same_entry row (row_of file ms (winners file) r.0) (sym e ∙ map_at (row_of file ms (winners file)) (runners_up file) i r.0 r.1) in
+      let lt = slice_get_within table i w.0 stands in
+      let r = item_at (runners_up file) i (omega arith) in
+      let is = same_item row (row_of file ms (winners file) r.0) (sym e ∙ map_at (row_of file ms (winners file)) (runners_up file) i r.0 r.1) in
       rw is (map_at (fits file ms r.0) (winners file) k w.0 w.1 ∙ ap Some (fits_by i k r.0 w.0 r.1 stands w.1))
 
   found_by : Found file ms ks
   found_by = record {
     size = sym ranks.size ∙ legal.size ∙ sym (length-map (runners_up file) (row_of file ms (winners file)));
     once = λ i j k e f.
-        let w = entry (winners file) k (ranks.inside i k e) in
+        let w = item_at (winners file) k (ranks.inside i k e) in
         legal.once i j w.0 (ranks.at i k e ∙ w.1) (ranks.at j k f ∙ w.1);
     fits = all_fit;
     free = λ i k e. within_free (length (winners file)) k (ranks.inside i k e);
     given = λ k e.
-        let w = entry (winners file) k (free_within (length (winners file)) k e) in
+        let w = item_at (winners file) k (free_within (length (winners file)) k e) in
         let i = legal.given w.0 (k, w.1) in
         let j = rank_at (winners file) ks table ranks i.0 w.0 i.1 in
         (i.0, j.1 ∙ ap Some (pot_once 1 file j.0 k w.0 j.2 w.1));
   }
 
+-- where there are no ranks nothing completes the moves
 pub none_completes : (file : DrawFile) (ms : List Move)
     → ((ks : List ℕ) → Finishes (grid_of file ms (winners file) (runners_up file)) (replicate (length (winners file)) false) ks → ⊥)
     → IsCompletable file ms → ⊥

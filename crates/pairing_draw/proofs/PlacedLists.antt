@@ -1,18 +1,19 @@
--- Lists with places, joined and filtered lists, and the places of teams.
+-- Lists with their places, joined and filtered lists, and the places of teams.
 use Rattle.std.proofs.Common.{◌≡◌, ℕ, zero, suc, ◌+◌, ◌*◌, ◌≤◌, Bool, true, false, cond, List, [], ◌∷◌, ◌++◌, length, map, Some, slice_get, ◌⊎◌, inl, inr, refl, ap, ◌∙◌, arith, length-append}
 use Rattle.std.specs.Prelude.{filter, ◌==◌, if◌then◌else◌}
 use Rattle.std.specs.List.{enumerate_from, flat_map, AllByRecursion as Each}
+use Rattle.std.proofs.lemmas.Bool.{cases_Bool, eqb-true, eq-eqb}
 use Rattle.std.proofs.lemmas.List.{length-map}
 use Rattle.std.proofs.lemmas.List.FromFn.{length-enumerate_from}
 use Rattle.std.proofs.lemmas.List.Sums.{length-filter, count_by-le-length}
-use Rattle.team_files.specs.declared.team.Team.{Team}
 use Rattle.team_files.specs.declared.team_id.TeamId.{TeamId}
-use Rattle.draw_tables.specs.Pots.{pot_from}
+use Rattle.draw_tables.proofs.Lists.{same_item}
+use Rattle.draw_tables.proofs.Numbers.{same_id}
 use Rattle.pairing_draw.specs.Encoding.{place_of}
-use Rattle.pairing_draw.proofs.Tables.{same_id, is_equal, equal, same_entry}
 
 -- ---- lists
 
+-- what holds of each item of two lists holds of each of the joined one, and the other way round
 pub each_append : {X : Type 0} (P : X → Type 0) (xs ys : List X) → Each P xs → Each P ys → Each P (xs ++ ys)
 each_append P [] ys h g = g
 each_append P (x ∷ xs) ys h g = (h.0, each_append P xs ys h.1 g)
@@ -21,6 +22,7 @@ pub each_split : {X : Type 0} (P : X → Type 0) (xs ys : List X) → Each P (xs
 each_split P [] ys h = (tt, h)
 each_split P (x ∷ xs) ys h = let rest = each_split P xs ys h.1 in ((h.0, rest.0), rest.1)
 
+-- an item of the first or of the second of two joined lists
 pub get_left : {X : Type 0} (xs ys : List X) (k : ℕ) (x : X) → slice_get xs k ≡ Some x → slice_get (xs ++ ys) k ≡ Some x
 get_left [] ys k x e = cc
 get_left (y ∷ xs) ys zero x e = e
@@ -36,7 +38,7 @@ pub get_joined : {A X : Type 0} (piece : A → List X) (n : ℕ) → ((a : A) �
     → (xs : List A) (i w : ℕ) (a : A) (x : X) → slice_get xs i ≡ Some a → slice_get (piece a) w ≡ Some x → slice_get (flat_map piece xs) (i * n + w) ≡ Some x
 get_joined piece n size [] i w a x e f = cc
 get_joined piece n size (b ∷ xs) zero w a x e f =
-    let s = same_entry b a e in
+    let s = same_item b a e in
     let q : w ≡ zero * n + w = omega arith in
     rw (← q) (get_left (piece b) (flat_map piece xs) w x (ap (λ y. slice_get (piece y) w) s ∙ f))
 get_joined piece n size (b ∷ xs) (suc i) w a x e f =
@@ -46,6 +48,7 @@ get_joined piece n size (b ∷ xs) (suc i) w a x e f =
 -- ---- lists with places
 
 module _ {A X : Type 0} (P : X → Type 0) where
+  -- what holds of each item with its place that passes a test, and the other way round
   pub each_of_places : (f : ℕ × A → X) (p : ℕ × A → Bool) (a : ℕ) (xs : List A)
       → ((j k : ℕ) (x : A) → j ≡ a + k → slice_get xs k ≡ Some x → p (j, x) ≡ true → P (f (j, x)))
       → Each P (map f (filter p (enumerate_from a xs)))
@@ -75,6 +78,7 @@ module _ {A X : Type 0} (P : X → Type 0) where
       by_cases true each = each.1
       by_cases false each = each
 
+  -- what holds of each item of the lists of items with their places, and the other way round
   pub each_joined : (f : ℕ × A → List X) (a : ℕ) (xs : List A)
       → ((j k : ℕ) (x : A) → j ≡ a + k → slice_get xs k ≡ Some x → Each P (f (j, x)))
       → Each P (flat_map f (enumerate_from a xs))
@@ -94,9 +98,11 @@ module _ {A X : Type 0} (P : X → Type 0) where
 
 -- ---- lengths
 
+-- no more pass a test than there are
 pub few_of_places : {A X : Type 0} (f : ℕ × A → X) (p : ℕ × A → Bool) (xs : List A) → length (map f (filter p (enumerate_from 0 xs))) ≤ length xs
 few_of_places f p xs = omega (arith, length-map (filter p (enumerate_from 0 xs)) f, length-filter p (enumerate_from 0 xs), count_by-le-length p (enumerate_from 0 xs), length-enumerate_from 0 xs)
 
+-- lists of at most n items for each
 pub few_joined : {A X : Type 0} (f : ℕ × A → List X) (n : ℕ) → ((a : ℕ × A) → length (f a) ≤ n) → (a : ℕ) (xs : List A) → length (flat_map f (enumerate_from a xs)) ≤ length xs * n
 few_joined f n h a [] = omega arith
 few_joined f n h a (x ∷ xs) =
@@ -105,25 +111,14 @@ few_joined f n h a (x ∷ xs) =
     let size = length-append (f (a, x)) (flat_map f (enumerate_from (a + 1) xs)) in
     omega arith
 
-pub pot_length : (pot i : ℕ) (ts : List Team) → length (pot_from pot i ts) ≤ length ts
-pot_length pot i [] = omega arith
-pot_length pot i (t ∷ ts) = by_cases (t.pot == pot) (pot_length pot (i + 1) ts)
-  where
-    by_cases : (b : Bool) → length (pot_from pot (i + 1) ts) ≤ length ts → length (if b then record { 0 = i } ∷ pot_from pot (i + 1) ts else pot_from pot (i + 1) ts) ≤ suc (length ts)
-    by_cases true h = omega arith
-    by_cases false h = omega arith
-
 -- ---- the places of teams
 
-either : (b : Bool) → (b ≡ true) ⊎ (b ≡ false)
-either true = inl refl
-either false = inr refl
-
+-- a team of the list stands at its place
 pub place_found : (t : TeamId) (xs : List TeamId) (i : ℕ) → slice_get xs i ≡ Some t → slice_get xs (place_of t xs) ≡ Some t
 place_found t [] i e = cc
-place_found t (x ∷ xs) i e = by_cases (either (x.0 == t.0)) i e (place_found t xs)
+place_found t (x ∷ xs) i e = by_cases (cases_Bool (x.0 == t.0)) i e (place_found t xs)
   where
     by_cases : ((x.0 == t.0) ≡ true) ⊎ ((x.0 == t.0) ≡ false) → (i : ℕ) → slice_get (x ∷ xs) i ≡ Some t → ((i : ℕ) → slice_get xs i ≡ Some t → slice_get xs (place_of t xs) ≡ Some t) → slice_get (x ∷ xs) (place_of t (x ∷ xs)) ≡ Some t
-    by_cases (inl is) i e rest = rw is (ap Some (same_id x t (is_equal x.0 t.0 is)))
-    by_cases (inr isnt) zero e rest = let s = equal x.0 t.0 (ap (λ y. y.0) (same_entry x t e)) in cc
+    by_cases (inl is) i e rest = rw is (ap Some (same_id x t (eqb-true x.0 t.0 is)))
+    by_cases (inr isnt) zero e rest = let s = eq-eqb x.0 t.0 (ap (λ y. y.0) (same_item x t e)) in cc
     by_cases (inr isnt) (suc i) e rest = let q : 1 + place_of t xs ≡ suc (place_of t xs) = omega arith in rw (isnt, q) (rest i e)

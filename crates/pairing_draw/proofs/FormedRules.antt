@@ -2,6 +2,7 @@
 use Rattle.std.proofs.Common.{◌≡◌, ℕ, ◌+◌, ◌*◌, ◌<◌, ◌≤◌, true, not, List, [], ◌∷◌, ◌++◌, length, map, refl, sym, ap, ◌∙◌, arith, length-append}
 use Rattle.std.specs.List.{range_with_len, enumerate_from, flat_map, AllByRecursion as Each}
 use Rattle.std.proofs.lemmas.List.FromFn.{length-map-range_with_len}
+use Rattle.std.proofs.lemmas.Option.{slice_get_within}
 use Rattle.team_files.specs.declared.team_id.TeamId.{TeamId}
 use Rattle.team_files.specs.Heads.{most_teams}
 use Rattle.rule_sets.specs.Files.{DrawFile}
@@ -12,10 +13,10 @@ use Rattle.count_core.specs.Problems.{IsWellFormed, IsWellFormedRule}
 use Rattle.count_core.proofs.Rules.{distinct_from_places, within_from_each}
 use Rattle.draw_tables.specs.Pots.{winners, runners_up, teams_of_pot}
 use Rattle.draw_tables.specs.Pairings.{may_meet}
+use Rattle.draw_tables.proofs.PotOrder.{pot_at_most}
 use Rattle.pairing_draw.specs.Encoding.{atom_of, pair_lit, exactly_one, never, row_rule, column_rule, bans_of, rules_between, rules_of}
-use Rattle.pairing_draw.proofs.Numbers.{atom_within, small_product, same_atom, each_below, below_at}
-use Rattle.pairing_draw.proofs.Pieces.{each_append, each_of_places, each_joined, few_of_places, few_joined, pot_length}
-use Rattle.pairing_draw.proofs.Tables.{within}
+use Rattle.pairing_draw.proofs.AtomNumbers.{atom_within, small_product, same_atom, each_below, below_at}
+use Rattle.pairing_draw.proofs.PlacedLists.{each_append, each_of_places, each_joined, few_of_places, few_joined}
 
 abbrev lit_at : (ℕ → ℕ) → ℕ → Lit
 lit_at g j = record { atom = record { 0 = g j }; positive = true }
@@ -60,8 +61,8 @@ module _ (file : DrawFile) (rs ws : List TeamId) where
   bans : Formed (flat_map (bans_of file ws) (enumerate_from 0 rs))
   bans = each_joined (IsWellFormedRule (length rs * length ws)) (bans_of file ws) 0 rs (λ r i runner is at.
       each_of_places (IsWellFormedRule (length rs * length ws)) (λ w. never (pair_lit (length ws) r w.0)) (λ w. not (may_meet file runner w.1)) 0 ws (λ w j winner s f t.
-      let in_m = within rs i runner at in
-      let in_n = within ws j winner f in
+      let in_m = slice_get_within rs i runner at in
+      let in_n = slice_get_within ws j winner f in
       never_formed (length rs * length ws) (pair_lit (length ws) r w) (atom_within (length rs) (length ws) r w (omega arith) (omega arith))))
 
   rules : Formed (rules_between file rs ws)
@@ -78,9 +79,11 @@ module _ (file : DrawFile) (rs ws : List TeamId) where
       let f = small_product (length rs) (length ws) few_r few_w in
       omega arith
 
+-- a pot has no more teams than a file may have
 pub few_teams : (file : DrawFile) (pot : ℕ) → HasForm file → length (teams_of_pot pot file) ≤ most_teams
-few_teams file pot form = omega (arith, pot_length pot 0 file.teams, form.common.few_teams)
+few_teams file pot form = omega (arith, pot_at_most pot file, form.common.few_teams)
 
+-- the rules of a file make a problem
 pub rules_formed : (file : DrawFile) → HasForm file → IsWellFormed (rules_of file)
 rules_formed file form = record {
   rules = rules file (runners_up file) (winners file);
