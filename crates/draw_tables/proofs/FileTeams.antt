@@ -9,7 +9,7 @@ use Rattle.draw_tables.specs.declared.moves.Phase.{Phase}
 use Rattle.draw_tables.specs.declared.moves.Phase.TheVariants.{Runner, Opponent, Complete}
 use Rattle.draw_tables.specs.Pots.{pot_from, AreTeamsOf, winners, runners_up, teams_of_pot}
 use Rattle.draw_tables.specs.Moves.{is_drawn}
-use Rattle.draw_tables.specs.PairingPhases.{is_paired, undrawn, unpaired}
+use Rattle.draw_tables.specs.PairingPhases.{is_paired, undrawn_runners_up, unpaired_winners}
 use Rattle.draw_tables.specs.States.{team_choices, candidates_in}
 use Rattle.draw_tables.specs.Names.{AreFileChoices}
 
@@ -39,6 +39,6 @@ choices_of file (t ∷ ts) h = (h.0, choices_of file ts h.1)
 
 -- the candidates are of the file
 pub candidates_within : (file : DrawFile) (ms : List Move) (p : Phase) → AreFileChoices file (candidates_in file ms p)
-candidates_within file ms Runner = choices_of file (undrawn file ms) (filter_within file (λ r. not (is_drawn r ms)) (runners_up file) (teams_within file 2))
-candidates_within file ms (Opponent r) = choices_of file (unpaired file ms) (filter_within file (λ w. not (is_paired w ms)) (winners file) (teams_within file 1))
+candidates_within file ms Runner = choices_of file (undrawn_runners_up file ms) (filter_within file (λ r. not (is_drawn r ms)) (runners_up file) (teams_within file 2))
+candidates_within file ms (Opponent r) = choices_of file (unpaired_winners file ms) (filter_within file (λ w. not (is_paired w ms)) (winners file) (teams_within file 1))
 candidates_within file ms Complete = tt

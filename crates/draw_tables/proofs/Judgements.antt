@@ -203,8 +203,10 @@ few file table formed of_file =
 -- the verdict on a table whose first case was found
 judgement_of : (file : DrawFile) (table : Table) (rule first second : ℕ) (verdict : Verdict) → verdict ≡ Broken rule first second → IsFirstBroken file table rule first second → IsJudgement file table verdict
 judgement_of file table rule first second verdict is h = record {
-  legal = λ e. let clash = sym is ∙ e in cc;
-  only_legal = λ legal. absurd (none_broken_where_legal file table legal rule first second h.broken);
+  legal = (
+    λ e. let clash = sym is ∙ e in cc,
+    λ legal. absurd (none_broken_where_legal file table legal rule first second h.broken),
+  );
   broken = λ r f s e.
       let same = sym is ∙ e in
       let one : rule ≡ r = cc in
@@ -235,7 +237,9 @@ module _ (file : DrawFile) (table : List TeamId) where
   pub judged_legal : HasForm file → IsPairTableOf file table → NoneNotOnce file table
       → NonePairs file table Letters → NonePairs file table Tags → NonePairs file table Forbidden → IsJudgement file (pairs_of table) Legal
   judged_legal formed of_file none letters tags forbidden = record {
-    legal = λ _. (of_file.kind, legal_by file table (formed.pairing of_file.kind) of_file.size (all_once table (winners file) none) (keeps file table Letters letters) (keeps file table Tags tags) (keeps file table Forbidden forbidden));
-    only_legal = λ _. refl;
+    legal = (
+      λ _. (of_file.kind, legal_by file table (formed.pairing of_file.kind) of_file.size (all_once table (winners file) none) (keeps file table Letters letters) (keeps file table Tags tags) (keeps file table Forbidden forbidden)),
+      λ _. refl,
+    );
     broken = λ r f s e. cc;
   }

@@ -14,7 +14,7 @@ use Rattle.draw_tables.specs.declared.moves.Phase.TheVariants.{Runner, Opponent,
 use Rattle.draw_tables.specs.Lists.{IsAmong}
 use Rattle.draw_tables.specs.Pots.{IsTeamOf}
 use Rattle.draw_tables.specs.Moves.{last_drawn}
-use Rattle.draw_tables.specs.PairingPhases.{has_opponent, undrawn, pairing_phase_with, pairing_phase}
+use Rattle.draw_tables.specs.PairingPhases.{has_opponent, undrawn_runners_up, pairing_phase_with, pairing_phase}
 use Rattle.draw_tables.specs.States.{phase_by, phase_of, candidates, move_in, IsCandidateMove, AreMovesAfter}
 use Rattle.draw_tables.specs.Offers.{IsPossible, Picks}
 use Rattle.draw_tables.specs.Names.{IsFileMove, AreFileMoves, IsFileChoice, AreFileChoices, IsFilePhase, StatesNameTeams}
@@ -62,12 +62,12 @@ pairing_phase_of file ms h = go (last_drawn ms) refl
     left [] = tt
     left (t ∷ ts) = tt
 
-    held : (r : TeamId) (b : Bool) → IsTeamOf file r → IsFilePhase file (pairing_phase_with (where_true (not b) r) (undrawn file ms))
-    held r true n = left (undrawn file ms)
+    held : (r : TeamId) (b : Bool) → IsTeamOf file r → IsFilePhase file (pairing_phase_with (where_true (not b) r) (undrawn_runners_up file ms))
+    held r true n = left (undrawn_runners_up file ms)
     held r false n = n
 
     go : (last : Option TeamId) → last_drawn ms ≡ last → IsFilePhase file (pairing_phase file ms)
-    go None is = rw is (left (undrawn file ms))
+    go None is = rw is (left (undrawn_runners_up file ms))
     go (Some r) is = rw is (held r (has_opponent r ms) (last_of file ms r h is))
 
 -- After moves of the file the phase is of the file.

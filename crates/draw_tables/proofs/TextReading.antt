@@ -12,7 +12,7 @@ use Rattle.team_files.specs.Characters.{is_code, is_code_character}
 use Rattle.team_files.specs.Teams.{find, find_from, HaveDistinctCodes}
 use Rattle.rule_sets.specs.Forms.{HasCode}
 use Rattle.draw_tables.specs.Reading.{front_team, spaced_team, spaced_teams, teams_in}
-use Rattle.draw_tables.specs.TableTexts.{code_in, code_of, spaced, codes_text}
+use Rattle.draw_tables.specs.TableTexts.{code_in, code_of, spaced_codes, codes_text}
 use Rattle.draw_tables.proofs.Lists.{same_item, item_at}
 
 -- ---- three characters in front
@@ -123,7 +123,7 @@ AllWithin teams (t ∷ ts) = (t.0 < length teams) × AllWithin teams ts
 pub record AreSpaced (teams : List Team) (n : ℕ) (bytes : List ℕ) (ts : List TeamId) : Type 0 where
   pub size : length ts ≡ n
   pub within : AllWithin teams ts
-  pub text : spaced teams ts ≡ bytes
+  pub text : spaced_codes teams ts ≡ bytes
 
 -- what one more item and the rest give
 both_given : {A B C : Type 0} (o : Option A) (next : Option B) (f : A → B → C) (c : C) → option_and_then (λ a. option_map (λ b. f a b) next) o ≡ Some c → (a : A) × (b : B) × (o ≡ Some a) × (next ≡ Some b) × (f a b ≡ c)
@@ -182,18 +182,18 @@ give_both : {A B C : Type 0} (o : Option A) (next : A → Option B) (f : A → B
 give_both o next f a b e h = rw (e, h) refl
 
 module _ (teams : List Team) (coded : All HasCode teams) (distinct : HaveDistinctCodes teams) where
-  all_read : (ts : List TeamId) → AllWithin teams ts → spaced_teams teams (length ts) (spaced teams ts) ≡ Some ts
+  all_read : (ts : List TeamId) → AllWithin teams ts → spaced_teams teams (length ts) (spaced_codes teams ts) ≡ Some ts
   all_read [] h = refl
   all_read (t ∷ ts) h =
-      let front = front_is teams coded distinct t (spaced teams ts) h.0 in
-      let rest : spaced_teams teams (length ts) (drop 3 (code_of teams t ++ spaced teams ts)) ≡ Some ts = rw front.1 (all_read ts h.1) in
-      give_both (front_team teams (code_of teams t ++ spaced teams ts)) (λ _. spaced_teams teams (length ts) (drop 3 (code_of teams t ++ spaced teams ts))) (λ x us. x ∷ us) t ts front.0 rest
+      let front = front_is teams coded distinct t (spaced_codes teams ts) h.0 in
+      let rest : spaced_teams teams (length ts) (drop 3 (code_of teams t ++ spaced_codes teams ts)) ≡ Some ts = rw front.1 (all_read ts h.1) in
+      give_both (front_team teams (code_of teams t ++ spaced_codes teams ts)) (λ _. spaced_teams teams (length ts) (drop 3 (code_of teams t ++ spaced_codes teams ts))) (λ x us. x ∷ us) t ts front.0 rest
 
   -- what has the bytes as its text is read of them
   pub text_is_read : (more : ℕ) (bytes : List ℕ) (ts : List TeamId) → AreTextOf teams more bytes ts → teams_in teams more bytes ≡ Some ts
   text_is_read more bytes [] h = absurd (omega (arith, h.size))
   text_is_read more bytes (t ∷ ts) h =
-      let front = front_is teams coded distinct t (spaced teams ts) h.within.0 in
+      let front = front_is teams coded distinct t (spaced_codes teams ts) h.within.0 in
       let size : length ts ≡ more = let s = h.size in omega arith in
-      let rest : spaced_teams teams more (drop 3 (code_of teams t ++ spaced teams ts)) ≡ Some ts = rw (front.1, ← size) (all_read ts h.within.1) in
-      rw (← h.text) (give_both (front_team teams (code_of teams t ++ spaced teams ts)) (λ _. spaced_teams teams more (drop 3 (code_of teams t ++ spaced teams ts))) (λ x us. x ∷ us) t ts front.0 rest)
+      let rest : spaced_teams teams more (drop 3 (code_of teams t ++ spaced_codes teams ts)) ≡ Some ts = rw (front.1, ← size) (all_read ts h.within.1) in
+      rw (← h.text) (give_both (front_team teams (code_of teams t ++ spaced_codes teams ts)) (λ _. spaced_teams teams more (drop 3 (code_of teams t ++ spaced_codes teams ts))) (λ x us. x ∷ us) t ts front.0 rest)

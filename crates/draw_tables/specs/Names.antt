@@ -38,6 +38,8 @@ IsFilePhase file Complete = Unit {0}
 -- What a state names is of its file: its moves, its phase, its candidates, and what is offered in it.
 pub record StatesNameTeams : Type 0 where
   pub moves : (file : DrawFile) (ms : List Move) → IsState file ms → AreFileMoves file ms
-  pub phase : (file : DrawFile) (ms : List Move) → IsState file ms → IsFilePhase file (phase_of file ms)
+  pub phase : (file : DrawFile) (ms : List Move)
+      → IsState file ms → IsFilePhase file (phase_of file ms)
   pub candidates : (file : DrawFile) (ms : List Move) → AreFileChoices file (candidates file ms)
-  pub offer : (file : DrawFile) (ms : List Move) (os : List Choice) → IsOffer file ms os → AreFileChoices file os
+  pub offer : (file : DrawFile) (ms : List Move) (os : List Choice)
+      → IsOffer file ms os → AreFileChoices file os

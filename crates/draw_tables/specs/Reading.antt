@@ -22,11 +22,15 @@ spaced_team teams (b ∷ bs) = if b == 32 then front_team teams bs else None
 abbrev pub spaced_teams : List Team → ℕ → List ℕ → Option (List TeamId)
 spaced_teams teams zero [] = Some []
 spaced_teams teams zero (b ∷ bs) = None
-spaced_teams teams (suc n) bytes = option_and_then (λ t. option_map (λ ts. t ∷ ts) (spaced_teams teams n (drop 4 bytes))) (spaced_team teams bytes)
+spaced_teams teams (suc n) bytes =
+    option_and_then (λ t.
+    option_map (λ ts. t ∷ ts) (spaced_teams teams n (drop 4 bytes))) (spaced_team teams bytes)
 
 -- a team and so many more
 abbrev pub teams_in : List Team → ℕ → List ℕ → Option (List TeamId)
-teams_in teams more bytes = option_and_then (λ t. option_map (λ ts. t ∷ ts) (spaced_teams teams more (drop 3 bytes))) (front_team teams bytes)
+teams_in teams more bytes =
+    option_and_then (λ t.
+    option_map (λ ts. t ∷ ts) (spaced_teams teams more (drop 3 bytes))) (front_team teams bytes)
 
 -- the teams that were found stand behind the old ones
 abbrev pub AddsTeams : List TeamId → Option (List TeamId) → List TeamId → Type 0

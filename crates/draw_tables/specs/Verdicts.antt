@@ -64,7 +64,8 @@ IsBroken file (Pairs pairs) rule first second = IsBrokenPairing file pairs.winne
 
 -- one case is told before another, or is the same: by the rule, then by the first number, then by the second
 abbrev pub IsNotAfter : ℕ → ℕ → ℕ → ℕ → ℕ → ℕ → Type 0
-IsNotAfter rule first second r f s = (rule < r) ⊎ ((rule ≡ r) × ((first < f) ⊎ ((first ≡ f) × (second ≤ s))))
+IsNotAfter rule first second r f s =
+    (rule < r) ⊎ ((rule ≡ r) × ((first < f) ⊎ ((first ≡ f) × (second ≤ s))))
 
 -- The first case: the least by the rule, the first and the second number.
 pub record IsFirstBroken (file : DrawFile) (table : Table) (rule first second : ℕ) : Type 0 where

@@ -1,7 +1,7 @@
 ghost use Rattle.std.specs.Prelude.{◌≡◌, ◌↔◌, IsTrue, MatchOption};
 ghost use Rattle.draw_tables.specs.Lists.{IsAmong};
 ghost use Rattle.draw_tables.specs.Pots.{teams_of_pot};
-ghost use Rattle.draw_tables.specs.PairingPhases.{undrawn, unpaired};
+ghost use Rattle.draw_tables.specs.PairingPhases.{undrawn_runners_up, unpaired_winners};
 ghost use Rattle.draw_tables.specs.States.{IsMoveOf, candidates, candidates_in, move_in};
 
 use crate::moves::{Choice, Move, Phase};
@@ -53,14 +53,14 @@ fn is_candidate_in(file: &DrawFile, moves: &[Move], phase: Phase, choice: Choice
 
 /// Whether the team is a runner-up that was not drawn.
 fn is_undrawn(file: &DrawFile, moves: &[Move], team: TeamId) -> bool
-    ensures { IsTrue result ↔ (IsAmong (undrawn file.now moves.now) team) }
+    ensures { IsTrue result ↔ (IsAmong (undrawn_runners_up file.now moves.now) team) }
 {
     is_in_pot(file, team, 2) && !is_drawn(moves, team)
 }
 
 /// Whether the team is a winner that is not paired.
 fn is_unpaired(file: &DrawFile, moves: &[Move], team: TeamId) -> bool
-    ensures { IsTrue result ↔ (IsAmong (unpaired file.now moves.now) team) }
+    ensures { IsTrue result ↔ (IsAmong (unpaired_winners file.now moves.now) team) }
 {
     is_in_pot(file, team, 1) && !is_paired(moves, team)
 }

@@ -1,4 +1,4 @@
-ghost use Rattle.std.specs.Prelude.{◌≡◌, ◌<◌, ◌^◌, length};
+ghost use Rattle.std.specs.Prelude.{◌≡◌, ◌↔◌, ◌<◌, ◌^◌, length};
 ghost use Rattle.rule_sets.specs.Files.{IsWellFormed};
 ghost use Rattle.rule_sets.specs.Forms.{HasForm};
 ghost use Rattle.draw_tables.specs.Pots.{AreTeamsOf, runners_up, winners};
@@ -18,8 +18,7 @@ use team_files::TeamId;
 /// that it breaks.
 pub fn judge(file: &DrawFile, table: &Table) -> Verdict
     requires { IsTableOf file.now table.now }
-    ensures legal { result ≡ Verdict.Legal → IsLegal file.now table.now }
-    ensures only_legal { IsLegal file.now table.now → result ≡ Verdict.Legal }
+    ensures legal { (result ≡ Verdict.Legal) ↔ IsLegal file.now table.now }
     ensures broken { NamesFirstBroken file.now table.now result }
 {
     match table {

@@ -1,6 +1,6 @@
 ghost use Rattle.std.specs.Prelude.{◌≡◌, ◌↔◌, [], IsTrue};
 ghost use Rattle.draw_tables.specs.Moves.{is_drawn, last_drawn};
-ghost use Rattle.draw_tables.specs.PairingPhases.{has_opponent, is_paired, waiting, undrawn, pairing_phase};
+ghost use Rattle.draw_tables.specs.PairingPhases.{has_opponent, is_paired, waiting_runner_up, undrawn_runners_up, pairing_phase};
 ghost use Rattle.draw_tables.specs.States.{phase_of};
 
 use crate::moves::{Move, Phase};
@@ -21,7 +21,7 @@ pub fn phase_of(file: &DrawFile, moves: &[Move]) -> Phase
 fn pairing_phase(file: &DrawFile, moves: &[Move]) -> Phase
     ensures { result ≡ pairing_phase file.now moves.now }
 {
-    match waiting(moves) {
+    match waiting_runner_up(moves) {
         Some(runner) => Phase::Opponent { runner },
         None if are_all_drawn(file, moves) => Phase::Complete,
         None => Phase::Runner,
@@ -29,8 +29,8 @@ fn pairing_phase(file: &DrawFile, moves: &[Move]) -> Phase
 }
 
 /// The last drawn runner-up, where it has no opponent.
-fn waiting(moves: &[Move]) -> Option<TeamId>
-    ensures { result ≡ waiting moves.now }
+fn waiting_runner_up(moves: &[Move]) -> Option<TeamId>
+    ensures { result ≡ waiting_runner_up moves.now }
 {
     let runner = last_drawn(moves)?;
     if has_opponent(moves, runner) {
@@ -81,7 +81,7 @@ pub(crate) fn is_paired(moves: &[Move], winner: TeamId) -> bool
 
 /// Whether each runner-up was drawn.
 fn are_all_drawn(file: &DrawFile, moves: &[Move]) -> bool
-    ensures { IsTrue result ↔ (undrawn file.now moves.now ≡ []) }
+    ensures { IsTrue result ↔ (undrawn_runners_up file.now moves.now ≡ []) }
 {
     let teams = file.teams();
     for place in 0..teams.number() {

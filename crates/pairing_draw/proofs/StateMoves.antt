@@ -19,7 +19,7 @@ use Rattle.draw_tables.specs.declared.moves.Choice.TheVariants.{Team}
 use Rattle.draw_tables.specs.Lists.{IsAmong}
 use Rattle.draw_tables.specs.Pots.{winners, runners_up}
 use Rattle.draw_tables.specs.Moves.{last_drawn, drawn_team, is_drawn}
-use Rattle.draw_tables.specs.PairingPhases.{waiting, has_opponent, undrawn, unpaired, is_paired, pairs_winner, pairing_phase_with}
+use Rattle.draw_tables.specs.PairingPhases.{waiting_runner_up, has_opponent, undrawn_runners_up, unpaired_winners, is_paired, pairs_winner, pairing_phase_with}
 use Rattle.draw_tables.specs.States.{candidates_in, move_in, IsCandidateMove, AreMovesAfter, IsState}
 use Rattle.draw_tables.proofs.PotMembers.{among_kept, among_choices}
 use Rattle.draw_tables.proofs.StateMoves.{phase_of_pairing}
@@ -70,7 +70,7 @@ module _ (file : DrawFile) (kind : file.kind ≡ Kind.Pairing) where
       by_cases None is (Drawn s) k e rest = let q : s ≡ t = cc in subst (IsAmong (runners_up file)) q k
       by_cases None is (Paired s v) k e rest = cc
 
-  wait_last : (ms : List Move) (r : TeamId) → waiting ms ≡ Some r → last_drawn ms ≡ Some r
+  wait_last : (ms : List Move) (r : TeamId) → waiting_runner_up ms ≡ Some r → last_drawn ms ≡ Some r
   wait_last ms r e = by_cases (last_drawn ms) e
     where
       inner : (s : TeamId) (b : Bool) → where_true b s ≡ Some r → Some s ≡ Some r
@@ -86,14 +86,14 @@ module _ (file : DrawFile) (kind : file.kind ≡ Kind.Pairing) where
     known : IsKnown file m
     fresh : (w : TeamId) → pairs_winner w m ≡ true → is_paired w before ≡ false
 
-  in_phase : (before : List Move) → Each (IsKnown file) before → (o : Option TeamId) → waiting before ≡ o → (left : List TeamId) → undrawn file before ≡ left
+  in_phase : (before : List Move) → Each (IsKnown file) before → (o : Option TeamId) → waiting_runner_up before ≡ o → (left : List TeamId) → undrawn_runners_up file before ≡ left
       → (c : Choice) (m : Move) → IsAmong (candidates_in file before (pairing_phase_with o left)) c → move_in (pairing_phase_with o left) c ≡ Some m → IsNext before m
   in_phase before h None is [] are c m among e = absurd (none_among c among)
   in_phase before h None is (x ∷ xs) are (Team t) m among e =
-      let found = among_kept (λ r. not (is_drawn r before)) (runners_up file) t (among_choices (undrawn file before) t among) in
+      let found = among_kept (λ r. not (is_drawn r before)) (runners_up file) t (among_choices (undrawn_runners_up file before) t among) in
       subst (IsNext before) (same_item (Drawn t) m e) (record { known = found.1; fresh = λ w d. cc })
   in_phase before h (Some r) is left are (Team t) m among e =
-      let found = among_kept (λ w. not (is_paired w before)) (winners file) t (among_choices (unpaired file before) t among) in
+      let found = among_kept (λ w. not (is_paired w before)) (winners file) t (among_choices (unpaired_winners file before) t among) in
       subst (IsNext before) (same_item (Paired r t) m e) (record {
         known = (last_known before r h (wait_last before r is), found.1);
         fresh = λ w d. off (is_paired w before) (ap (λ x. not (is_paired x before)) (same_id w t (sym (eqb-true t.0 w.0 d))) ∙ found.0);
@@ -106,7 +106,7 @@ module _ (file : DrawFile) (kind : file.kind ≡ Kind.Pairing) where
   next_is : (before : List Move) (m : Move) → Each (IsKnown file) before → IsCandidateMove file before m → IsNext before m
   next_is before m h c =
       let phase = phase_of_pairing file before kind in
-      in_phase before h (waiting before) refl (undrawn file before) refl c.0 m
+      in_phase before h (waiting_runner_up before) refl (undrawn_runners_up file before) refl c.0 m
       (subst (λ p. IsAmong (candidates_in file before p) c.0) phase c.1.0)
       (subst (λ p. move_in p c.0 ≡ Some m) phase c.1.1)
 

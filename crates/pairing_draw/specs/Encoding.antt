@@ -44,7 +44,9 @@ column_rule m n w = exactly_one (map (λ r. pair_lit n r w) (range_with_len 0 m)
 -- 3. the runner-up gets none of the winners that it may not meet: those of its first-round group,
 -- those with a common tag and those with which it is a forbidden pair
 abbrev pub bans_of : DrawFile → List TeamId → ℕ × TeamId → List CountRule
-bans_of file ws r = map (λ w. never (pair_lit (length ws) r.0 w.0)) (filter (λ w. not (may_meet file r.1 w.1)) (enumerate_from 0 ws))
+bans_of file ws r =
+    map (λ w. never (pair_lit (length ws) r.0 w.0))
+    (filter (λ w. not (may_meet file r.1 w.1)) (enumerate_from 0 ws))
 
 -- the rules of each kind
 abbrev pub row_rules : ℕ → ℕ → List CountRule
@@ -59,11 +61,16 @@ ban_rules file rs ws = flat_map (bans_of file ws) (enumerate_from 0 rs)
 -- all rules, in the order of their kinds
 abbrev pub rules_between : DrawFile → List TeamId → List TeamId → List CountRule
 rules_between file rs ws =
-    row_rules (length rs) (length ws) ++ (column_rules (length rs) (length ws) ++ ban_rules file rs ws)
+    row_rules (length rs) (length ws)
+    ++ (column_rules (length rs) (length ws)
+    ++ ban_rules file rs ws)
 
 -- the count problem of runners-up and winners
 abbrev pub problem_between : DrawFile → List TeamId → List TeamId → Problem
-problem_between file rs ws = record { atoms = length rs * length ws; rules = rules_between file rs ws }
+problem_between file rs ws = record {
+  atoms = length rs * length ws;
+  rules = rules_between file rs ws;
+}
 
 -- The count problem of a pairing file.
 abbrev pub rules_of : DrawFile → Problem
@@ -91,11 +98,13 @@ IsTrueWinner values ws r winner =
 -- Each of m runners-up is given a winner whose atom is true.
 pub record IsRead (values : List Bool) (m : ℕ) (ws : List TeamId) (given : List TeamId) : Type 0 where
   pub size : length given ≡ m
-  pub atoms : (r : ℕ) (winner : TeamId) → slice_get given r ≡ Some winner → IsTrueWinner values ws r winner
+  pub atoms : (r : ℕ) (winner : TeamId)
+      → slice_get given r ≡ Some winner → IsTrueWinner values ws r winner
 
 -- The table gives each runner-up of the file a winner whose atom is true.
 abbrev pub IsReadTable : DrawFile → List Bool → Table → Type 0
-IsReadTable file values (Pairs pairs) = IsRead values (length (runners_up file)) (winners file) pairs.winners
+IsReadTable file values (Pairs pairs) =
+    IsRead values (length (runners_up file)) (winners file) pairs.winners
 
 -- ---- literals of moves
 
@@ -106,7 +115,9 @@ place_of t teams = position_or_len (λ x. x.0 == t.0) teams
 -- a drawn ball says nothing of the table
 abbrev pub lit_of_move : DrawFile → Move → Option Lit
 lit_of_move file (Drawn t) = None
-lit_of_move file (Paired r w) = Some (pair_lit (length (winners file)) (place_of r (runners_up file)) (place_of w (winners file)))
+lit_of_move file (Paired r w) =
+    Some (pair_lit (length (winners file))
+    (place_of r (runners_up file)) (place_of w (winners file)))
 
 -- The literals of moves: one for each pair, in order.
 abbrev pub lits_of_moves : DrawFile → List Move → List Lit

@@ -41,9 +41,7 @@ fn pairs_of(alloc: Global, teams: &Teams, pairs: &[HeadPair]) -> Result<Vec<Pair
     let mut found = Vec::new(alloc);
     for (place, pair) in pairs.iter().enumerate() {
         let pair = pair_of(teams, place as u32, pair)?;
-        if found.push(pair).is_err() {
-            return Err(FileFault::NoMemory);
-        }
+        found.push(pair)?;
     }
     Ok(found)
 }

@@ -9,7 +9,7 @@ use Rattle.team_files.specs.declared.team.Team.{Team}
 use Rattle.team_files.specs.declared.team_id.TeamId.{TeamId}
 use Rattle.team_files.specs.Teams.{find_from, find, HaveDistinctCodes}
 use Rattle.team_files.specs.Heads.{same_code_from, same_code_fault}
-use Rattle.team_files.specs.Codes.{codes_of, HasCodeAt, AreDifferent, StandsBefore, IsFirstRepeat, FindsByCode, TellsSameCode}
+use Rattle.team_files.specs.Codes.{codes_of, HasCodeAt, AreDifferent, StandsBefore, IsFirstRepeat, IsOfFirstRepeat, FindsByCode, TellsSameCode}
 
 -- ---- finding a code
 
@@ -130,7 +130,7 @@ step earlier t ts fresh none k other lt at before = go (cases_order k (length ea
     go (inr (inr more)) = let n = one_more earlier t in absurd (omega (arith, n, more, lt))
 
 abbrev pub FirstRepeatTold : List Team → FileFault → Type 0
-FirstRepeatTold teams fault = (place : ℕ) × (code : List ℕ) × (fault ≡ FileFault.SameCode code) × IsFirstRepeat (codes_of teams) place code
+FirstRepeatTold teams fault = IsOfFirstRepeat (codes_of teams) fault
 
 -- the whole list, and what stands behind its first part
 told : (earlier ts whole : List Team) (fault : FileFault) → earlier ++ ts ≡ whole → NoneBelow (codes_of whole) (length earlier)

@@ -3,7 +3,8 @@ use Rattle.std.specs.Prelude.{◌≡◌, ◌≢◌, Option, Some, None, Result, 
 use Rattle.team_files.specs.declared.fault.FileFault.{FileFault}
 
 -- the first step's fault, else what the second makes of its value
-abbrev pub after : {A B : Type 0} → Result A FileFault → (A → Result B FileFault) → Result B FileFault
+abbrev pub after : {A B : Type 0}
+    → Result A FileFault → (A → Result B FileFault) → Result B FileFault
 after (Ok a) next = next a
 after (Err fault) next = Err fault
 

@@ -25,4 +25,5 @@ longest_tag = 16
 -- a tag is at least 1 and at most `longest_tag` characters A to Z or 0 to 9
 abbrev pub is_tag : List ℕ → Bool
 is_tag bytes =
-    (nat_le 1 (length bytes) && nat_le (length bytes) longest_tag) && list_all is_code_character bytes
+    (nat_le 1 (length bytes) && nat_le (length bytes) longest_tag)
+    && list_all is_code_character bytes
