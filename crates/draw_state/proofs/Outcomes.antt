@@ -4,10 +4,10 @@ use Rattle.rule_sets.specs.Files.{DrawFile}
 use Rattle.draw_tables.specs.declared.moves.Move.{Move}
 use Rattle.draw_tables.specs.declared.moves.Choice.{Choice}
 use Rattle.draw_tables.specs.declared.moves.Phase.{Phase}
-use Rattle.draw_tables.specs.Pots.{IsAmong}
+use Rattle.draw_tables.specs.Lists.{IsAmong}
 use Rattle.draw_tables.specs.States.{phase_of, candidates, move_in}
 use Rattle.draw_tables.specs.Offers.{IsOffer, IsPossible}
-use Rattle.draw_tables.proofs.Picked.{offered_where_possible}
+use Rattle.draw_tables.proofs.OfferLaws.{offered_where_possible}
 use Rattle.draw_state.specs.declared.commands.Word.{Word}
 use Rattle.draw_state.specs.declared.commands.Command.{Command}
 use Rattle.draw_state.specs.declared.commands.Action.{Action}

@@ -8,8 +8,8 @@ use Rattle.draw_tables.specs.Names.{AreFileMoves, IsFilePhase}
 use Rattle.draw_tables.specs.States.{phase_of, candidates, move_in, IsMoveOf, IsState}
 use Rattle.draw_tables.specs.Offers.{IsOffer, IsPossible, IsCompletable}
 use Rattle.draw_tables.proofs.StateMoves.{state_and_move}
-use Rattle.draw_tables.proofs.Named.{states_name_teams}
-use Rattle.draw_tables.proofs.Picked.{one_offer}
+use Rattle.draw_tables.proofs.NamedTeams.{states_name_teams}
+use Rattle.draw_tables.proofs.OfferLaws.{one_offer}
 use Rattle.draw_state.specs.declared.commands.Command.{Command}
 use Rattle.draw_state.specs.declared.commands.Action.{Action}
 use Rattle.draw_state.specs.declared.replies.NextLine.{NextLine}

@@ -6,7 +6,7 @@ use Rattle.rule_sets.specs.Files.{DrawFile}
 use Rattle.draw_tables.specs.declared.moves.Move.{Move}
 use Rattle.draw_tables.specs.declared.moves.Choice.{Choice}
 use Rattle.draw_tables.specs.declared.moves.Phase.{Phase}
-use Rattle.draw_tables.specs.Pots.{IsAmong}
+use Rattle.draw_tables.specs.Lists.{IsAmong}
 use Rattle.draw_tables.specs.States.{phase_of, candidates, IsMoveOf}
 use Rattle.draw_tables.specs.Offers.{IsPossible}
 use Rattle.draw_state.specs.declared.commands.Word.{Word}

@@ -1,6 +1,6 @@
 ghost use Rattle.std.specs.Prelude.{◌≡◌, ◌↔◌, IfOk, IfErr, IsTrue};
 ghost use Rattle.draw_tables.specs.Offers.{IsOffer};
-ghost use Rattle.draw_tables.specs.Pots.{IsAmong};
+ghost use Rattle.draw_tables.specs.Lists.{IsAmong};
 ghost use Rattle.draw_state.specs.Commands.{choice_of, IsAcceptedCommand, IsRefusedCommand};
 ghost use Rattle.draw_state.specs.Runs.{IsNextLine};
 

@@ -1,7 +1,7 @@
 ghost use Rattle.std.specs.Prelude.{◌≡◌, ◌↔◌, [], ◌∷◌, ◌++◌, IfOk, OnOk, OnErr, IfErr, IsTrue, MatchOption, Some};
 ghost use Rattle.draw_tables.specs.declared.moves.Choice.{Choice as ChoiceValue};
 ghost use Rattle.draw_tables.specs.Names.{AreFileChoices};
-ghost use Rattle.draw_tables.specs.Pots.{IsAmong};
+ghost use Rattle.draw_tables.specs.Lists.{IsAmong};
 ghost use Rattle.draw_tables.specs.States.{phase_of, candidates, move_in, IsMoveOf, IsCandidateMove, IsState};
 
 use crate::NoMemory;

@@ -1,16 +1,47 @@
-pub mod Members
-pub mod Within
-pub mod InOrder
-pub mod Counts
-pub mod Pigeonhole
-pub mod Passing
-pub mod Cases
-pub mod Judged
-pub mod Items
-pub mod TextsRead
-pub mod Halves
-pub mod TablesRead
-pub mod Among
-pub mod Picked
-pub mod Named
+-- ---- numbers and lists
+-- numbers, and teams by their numbers
+pub mod Numbers
+-- items of lists by their places
+pub mod Lists
+
+-- ---- pots
+-- a pass over the file's teams, one team at a time
+pub mod PotSteps
+-- the teams of a pot stand in file order, each once
+pub mod PotOrder
+-- which teams stand in a pot, and which of them have a property
+pub mod PotMembers
+-- half of the teams of a pairing are runners-up
+pub mod HalfOfTeams
+
+-- ---- states and offers
+-- the teams of pots and the candidates are of the file
+pub mod FileTeams
+-- what a state names is of its file
+pub mod NamedTeams
+-- states grow by a candidate's move and shrink by their last
 pub mod StateMoves
+-- a state has one offer, which has exactly the possible choices
+pub mod OfferLaws
+
+-- ---- rules and verdicts
+-- rules 2 to 4 for one pair
+pub mod PairRules
+-- how often a table gives a team
+pub mod TimesGiven
+-- a table that gives each winner once gives nobody else
+pub mod NobodyElse
+-- what a pass over the runners-up or the winners finds, one team at a time
+pub mod PassSteps
+-- the cases of broken rules: what the passes find, and legal tables
+pub mod RuleCases
+-- what the passes of a judgement say of the table, and the laws of verdicts
+pub mod Judgements
+
+-- ---- the text of a table
+-- one more code is read of a text
+pub mod ItemSteps
+-- what is read of a text has that text, and what has a text is read of it
+pub mod TextReading
+-- a table is read of its text, and of no other table's
+pub mod TableReading

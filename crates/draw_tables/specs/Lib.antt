@@ -1,3 +1,4 @@
+pub mod Lists
 pub mod Pots
 pub mod Pairings
 pub mod Moves

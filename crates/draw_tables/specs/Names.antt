@@ -1,5 +1,6 @@
 -- Moves, choices and phases of a file: each team in them is one of its teams.
-use Rattle.std.specs.Prelude.{List, [], ◌∷◌}
+use Rattle.std.specs.Prelude.{List}
+use Rattle.std.specs.List.{AllByRecursion as Each}
 use Rattle.rule_sets.specs.Files.{DrawFile}
 use Rattle.draw_tables.specs.declared.moves.Move.{Move}
 use Rattle.draw_tables.specs.declared.moves.Move.TheVariants.{Drawn, Paired}
@@ -18,8 +19,7 @@ IsFileMove file (Paired r w) = IsTeamOf file r × IsTeamOf file w
 
 -- each move is one of the file
 abbrev pub AreFileMoves : DrawFile → List Move → Type 0
-AreFileMoves file [] = Unit {0}
-AreFileMoves file (m ∷ ms) = IsFileMove file m × AreFileMoves file ms
+AreFileMoves file ms = Each (IsFileMove file) ms
 
 -- the choice is one of the file
 abbrev pub IsFileChoice : DrawFile → Choice → Type 0
@@ -27,8 +27,7 @@ IsFileChoice file (Team t) = IsTeamOf file t
 
 -- each choice is one of the file
 abbrev pub AreFileChoices : DrawFile → List Choice → Type 0
-AreFileChoices file [] = Unit {0}
-AreFileChoices file (c ∷ cs) = IsFileChoice file c × AreFileChoices file cs
+AreFileChoices file cs = Each (IsFileChoice file) cs
 
 -- the phase is one of the file
 abbrev pub IsFilePhase : DrawFile → Phase → Type 0
@@ -39,6 +38,8 @@ IsFilePhase file Complete = Unit {0}
 -- What a state names is of its file: its moves, its phase, its candidates, and what is offered in it.
 pub record StatesNameTeams : Type 0 where
   pub moves : (file : DrawFile) (ms : List Move) → IsState file ms → AreFileMoves file ms
-  pub phase : (file : DrawFile) (ms : List Move) → IsState file ms → IsFilePhase file (phase_of file ms)
+  pub phase : (file : DrawFile) (ms : List Move)
+      → IsState file ms → IsFilePhase file (phase_of file ms)
   pub candidates : (file : DrawFile) (ms : List Move) → AreFileChoices file (candidates file ms)
-  pub offer : (file : DrawFile) (ms : List Move) (os : List Choice) → IsOffer file ms os → AreFileChoices file os
+  pub offer : (file : DrawFile) (ms : List Move) (os : List Choice)
+      → IsOffer file ms os → AreFileChoices file os

@@ -8,7 +8,7 @@ use Rattle.draw_tables.specs.declared.table.Table.{Table}
 use Rattle.draw_tables.specs.declared.table.Table.TheVariants.{Pairs}
 use Rattle.draw_tables.specs.Pairings.{GivesOpponent}
 use Rattle.draw_tables.specs.Tables.{IsLegal}
-use Rattle.draw_tables.specs.Pots.{IsAmong}
+use Rattle.draw_tables.specs.Lists.{IsAmong}
 use Rattle.draw_tables.specs.States.{candidates, IsMoveOf, IsCandidateMove}
 
 -- the table agrees with the move; a drawn ball says nothing of the table
@@ -33,7 +33,8 @@ IsPossible file ms c = (m : Move) × IsMoveOf file ms c m × IsCompletable file 
 abbrev pub Picks : {A : Type 0} → (A → Type 0) → List A → List A → Type 0
 Picks P [] [] = Unit {0}
 Picks P [] (o ∷ os) = ⊥
-Picks {A} P (c ∷ cs) os = (P c × ((rest : List A) × (os ≡ c ∷ rest) × Picks P cs rest)) ⊎ (¬ P c × Picks P cs os)
+Picks {A} P (c ∷ cs) os =
+    (P c × ((rest : List A) × (os ≡ c ∷ rest) × Picks P cs rest)) ⊎ (¬ P c × Picks P cs os)
 
 -- The offer of the state: its possible candidates, in their order.
 abbrev pub IsOffer : DrawFile → List Move → List Choice → Type 0
@@ -43,7 +44,8 @@ IsOffer file ms offered = Picks (IsPossible file ms) (candidates file ms) offere
 
 -- Two offers of one state are the same.
 abbrev pub OneOffer : Type 0
-OneOffer = (file : DrawFile) (ms : List Move) (os qs : List Choice) → IsOffer file ms os → IsOffer file ms qs → os ≡ qs
+OneOffer = (file : DrawFile) (ms : List Move) (os qs : List Choice)
+    → IsOffer file ms os → IsOffer file ms qs → os ≡ qs
 
 -- The offer has exactly the possible choices.
 abbrev pub OfferedWherePossible : Type 0
@@ -53,5 +55,6 @@ OfferedWherePossible = (file : DrawFile) (ms : List Move) (os : List Choice) (c 
 -- There is an offer where it is decided of each candidate's move whether the moves with it can be completed.
 abbrev pub OfferWhereDecided : Type 0
 OfferWhereDecided = (file : DrawFile) (ms : List Move)
-    → ((m : Move) → IsCandidateMove file ms m → IsCompletable file (ms ++ m ∷ []) ⊎ ¬ IsCompletable file (ms ++ m ∷ []))
+    → ((m : Move) → IsCandidateMove file ms m
+        → IsCompletable file (ms ++ m ∷ []) ⊎ ¬ IsCompletable file (ms ++ m ∷ []))
     → (os : List Choice) × IsOffer file ms os

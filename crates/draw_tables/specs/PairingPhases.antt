@@ -32,16 +32,16 @@ abbrev pub is_paired : TeamId → List Move → Bool
 is_paired t ms = list_any (pairs_winner t) ms
 
 -- the last drawn runner-up, where it has no opponent
-abbrev pub waiting : List Move → Option TeamId
-waiting ms = option_and_then (λ r. where_true (not (has_opponent r ms)) r) (last_drawn ms)
+abbrev pub waiting_runner_up : List Move → Option TeamId
+waiting_runner_up ms = option_and_then (λ r. where_true (not (has_opponent r ms)) r) (last_drawn ms)
 
 -- the runners-up that were not drawn, in file order
-abbrev pub undrawn : DrawFile → List Move → List TeamId
-undrawn file ms = filter (λ r. not (is_drawn r ms)) (runners_up file)
+abbrev pub undrawn_runners_up : DrawFile → List Move → List TeamId
+undrawn_runners_up file ms = filter (λ r. not (is_drawn r ms)) (runners_up file)
 
 -- the winners that are not paired, in file order
-abbrev pub unpaired : DrawFile → List Move → List TeamId
-unpaired file ms = filter (λ w. not (is_paired w ms)) (winners file)
+abbrev pub unpaired_winners : DrawFile → List Move → List TeamId
+unpaired_winners file ms = filter (λ w. not (is_paired w ms)) (winners file)
 
 -- ---- the phase
 
@@ -53,4 +53,4 @@ pairing_phase_with None (r ∷ rs) = Runner
 
 -- Opponent where the last drawn runner-up has no opponent; else Runner where some runner-up is undrawn; else Complete
 abbrev pub pairing_phase : DrawFile → List Move → Phase
-pairing_phase file ms = pairing_phase_with (waiting ms) (undrawn file ms)
+pairing_phase file ms = pairing_phase_with (waiting_runner_up ms) (undrawn_runners_up file ms)

@@ -4,14 +4,11 @@ use Rattle.team_files.specs.declared.team.Team.{Team}
 use Rattle.team_files.specs.declared.team_id.TeamId.{TeamId}
 use Rattle.rule_sets.specs.Files.{DrawFile}
 
--- the list has the item
-abbrev pub IsAmong : {A : Type 0} → List A → A → Type 0
-IsAmong xs x = (k : ℕ) × (slice_get xs k ≡ Some x)
-
 -- the teams of a pot in file order, where teams are counted from i
 abbrev pub pot_from : ℕ → ℕ → List Team → List TeamId
 pot_from pot i [] = []
-pot_from pot i (t ∷ ts) = if t.pot == pot then record { 0 = i } ∷ pot_from pot (i + 1) ts else pot_from pot (i + 1) ts
+pot_from pot i (t ∷ ts) =
+    if t.pot == pot then record { 0 = i } ∷ pot_from pot (i + 1) ts else pot_from pot (i + 1) ts
 
 -- the teams of a pot, in file order
 abbrev pub teams_of_pot : ℕ → DrawFile → List TeamId

@@ -9,8 +9,8 @@ use Rattle.draw_tables.specs.declared.moves.Choice.{Choice}
 use Rattle.draw_tables.specs.declared.moves.Choice.TheVariants.{Team}
 use Rattle.draw_tables.specs.declared.moves.Phase.{Phase}
 use Rattle.draw_tables.specs.declared.moves.Phase.TheVariants.{Runner, Opponent, Complete}
-use Rattle.draw_tables.specs.Pots.{IsAmong}
-use Rattle.draw_tables.specs.PairingPhases.{undrawn, unpaired, pairing_phase}
+use Rattle.draw_tables.specs.Lists.{IsAmong}
+use Rattle.draw_tables.specs.PairingPhases.{undrawn_runners_up, unpaired_winners, pairing_phase}
 
 -- ---- phases and candidates
 
@@ -28,8 +28,8 @@ team_choices teams = map (λ t. Team t) teams
 
 -- the candidates that a phase has after the moves
 abbrev pub candidates_in : DrawFile → List Move → Phase → List Choice
-candidates_in file ms Runner = team_choices (undrawn file ms)
-candidates_in file ms (Opponent r) = team_choices (unpaired file ms)
+candidates_in file ms Runner = team_choices (undrawn_runners_up file ms)
+candidates_in file ms (Opponent r) = team_choices (unpaired_winners file ms)
 candidates_in file ms Complete = []
 
 -- The candidates of the phase, in order.
@@ -57,7 +57,8 @@ IsCandidateMove file before m = (c : Choice) × IsMoveOf file before c m
 -- each move was a candidate's in the phase of these moves and those before it
 abbrev pub AreMovesAfter : DrawFile → List Move → List Move → Type 0
 AreMovesAfter file before [] = Unit {0}
-AreMovesAfter file before (m ∷ ms) = IsCandidateMove file before m × AreMovesAfter file (before ++ m ∷ []) ms
+AreMovesAfter file before (m ∷ ms) =
+    IsCandidateMove file before m × AreMovesAfter file (before ++ m ∷ []) ms
 
 -- A state: each move was a candidate's in the phase of the moves before it.
 abbrev pub IsState : DrawFile → List Move → Type 0

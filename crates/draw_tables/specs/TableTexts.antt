@@ -16,14 +16,14 @@ abbrev pub code_of : List Team → TeamId → List ℕ
 code_of teams id = code_in (slice_get teams id.0)
 
 -- the codes of the teams, each behind one space
-abbrev pub spaced : List Team → List TeamId → List ℕ
-spaced teams [] = []
-spaced teams (t ∷ ts) = 32 ∷ code_of teams t ++ spaced teams ts
+abbrev pub spaced_codes : List Team → List TeamId → List ℕ
+spaced_codes teams [] = []
+spaced_codes teams (t ∷ ts) = 32 ∷ code_of teams t ++ spaced_codes teams ts
 
 -- the codes of the teams with one space between two, and none at the ends
 abbrev pub codes_text : List Team → List TeamId → List ℕ
 codes_text teams [] = []
-codes_text teams (t ∷ ts) = code_of teams t ++ spaced teams ts
+codes_text teams (t ∷ ts) = code_of teams t ++ spaced_codes teams ts
 
 -- The bytes are the text of this table of a pairing: for each runner-up in file order, the code of its winner.
 pub record IsTextOfPairs (file : DrawFile) (winners : List TeamId) (bytes : List ℕ) : Type 0 where
@@ -33,6 +33,10 @@ pub record IsTextOfPairs (file : DrawFile) (winners : List TeamId) (bytes : List
 -- The bytes are the text of this table of the file.
 abbrev pub IsTextOf : DrawFile → Table → List ℕ → Type 0
 IsTextOf file (Pairs pairs) bytes = IsTextOfPairs file pairs.winners bytes
+
+-- The bytes are the text of no table of the file.
+abbrev pub IsTextOfNone : DrawFile → List ℕ → Type 0
+IsTextOfNone file bytes = (table : Table) → ¬ IsTextOf file table bytes
 
 -- ---- law
 

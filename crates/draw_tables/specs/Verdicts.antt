@@ -6,7 +6,10 @@ use Rattle.rule_sets.specs.Files.{DrawFile}
 use Rattle.rule_sets.specs.Forms.{HasForm}
 use Rattle.draw_tables.specs.declared.table.Table.{Table}
 use Rattle.draw_tables.specs.declared.table.Table.TheVariants.{Pairs}
-use Rattle.draw_tables.specs.Pots.{winners, IsTeam, IsAmong}
+use Rattle.draw_tables.specs.declared.verdict.Verdict.{Verdict}
+use Rattle.draw_tables.specs.declared.verdict.Verdict.TheVariants.{Broken}
+use Rattle.draw_tables.specs.Lists.{IsAmong}
+use Rattle.draw_tables.specs.Pots.{winners, IsTeam}
 use Rattle.draw_tables.specs.Pairings.{GivesOpponent, have_same_letter, have_common_tag, is_forbidden}
 use Rattle.draw_tables.specs.Tables.{IsTableOf, IsLegal}
 
@@ -61,24 +64,30 @@ IsBroken file (Pairs pairs) rule first second = IsBrokenPairing file pairs.winne
 
 -- one case is told before another, or is the same: by the rule, then by the first number, then by the second
 abbrev pub IsNotAfter : ℕ → ℕ → ℕ → ℕ → ℕ → ℕ → Type 0
-IsNotAfter rule first second r f s = (rule < r) ⊎ ((rule ≡ r) × ((first < f) ⊎ ((first ≡ f) × (second ≤ s))))
+IsNotAfter rule first second r f s =
+    (rule < r) ⊎ ((rule ≡ r) × ((first < f) ⊎ ((first ≡ f) × (second ≤ s))))
 
 -- The first case: the least by the rule, the first and the second number.
 pub record IsFirstBroken (file : DrawFile) (table : Table) (rule first second : ℕ) : Type 0 where
   pub broken : IsBroken file table rule first second
   pub least : (r f s : ℕ) → IsBroken file table r f s → IsNotAfter rule first second r f s
 
+-- Where the verdict names a broken rule and two numbers, these are the first case.
+abbrev pub NamesFirstBroken : DrawFile → Table → Verdict → Type 0
+NamesFirstBroken file table verdict = (rule first second : ℕ)
+    → verdict ≡ Broken rule first second → IsFirstBroken file table rule first second
+
 -- ---- laws
 
 -- A table of the file that breaks no rule is legal.
 abbrev pub LegalWhereNoneBroken : Type 0
 LegalWhereNoneBroken = (file : DrawFile) (table : Table) → HasForm file → IsTableOf file table
-    → ((rule first second : ℕ) → IsBroken file table rule first second → ⊥) → IsLegal file table
+    → ((rule first second : ℕ) → ¬ IsBroken file table rule first second) → IsLegal file table
 
 -- A legal table breaks no rule.
 abbrev pub NoneBrokenWhereLegal : Type 0
 NoneBrokenWhereLegal = (file : DrawFile) (table : Table) → IsLegal file table
-    → (rule first second : ℕ) → IsBroken file table rule first second → ⊥
+    → (rule first second : ℕ) → ¬ IsBroken file table rule first second
 
 -- A table has at most one first case.
 abbrev pub OneFirstBroken : Type 0

@@ -1,6 +1,7 @@
 ghost use Rattle.std.specs.Prelude.{◌≡◌, ◌↔◌, IsTrue, MatchOption};
-ghost use Rattle.draw_tables.specs.Pots.{IsAmong, teams_of_pot};
-ghost use Rattle.draw_tables.specs.PairingPhases.{undrawn, unpaired};
+ghost use Rattle.draw_tables.specs.Lists.{IsAmong};
+ghost use Rattle.draw_tables.specs.Pots.{teams_of_pot};
+ghost use Rattle.draw_tables.specs.PairingPhases.{undrawn_runners_up, unpaired_winners};
 ghost use Rattle.draw_tables.specs.States.{IsMoveOf, candidates, candidates_in, move_in};
 
 use crate::moves::{Choice, Move, Phase};
@@ -8,17 +9,17 @@ use crate::phases::{is_drawn, is_paired, phase_of};
 use rule_sets::DrawFile;
 use team_files::TeamId;
 
-/// Whether the choice is a candidate of the phase after the moves. Takes no memory.
+/// Whether the choice is a candidate of the phase after the moves.
 pub fn is_candidate(file: &DrawFile, moves: &[Move], choice: Choice) -> bool
     ensures { IsTrue result ↔ (IsAmong (candidates file.now moves.now) choice) }
 {
     is_candidate_in(file, moves, phase_of(file, moves), choice)
 }
 
-/// The move that the choice adds after the moves, or none where it is no candidate. Takes no memory.
+/// The move that the choice adds after the moves, or none where it is not a candidate.
 pub fn move_of(file: &DrawFile, moves: &[Move], choice: Choice) -> Option<Move>
     ensures { MatchOption result
-        (IsAmong (candidates file.now moves.now) choice → ⊥)
+        (¬ IsAmong (candidates file.now moves.now) choice)
         (λ m. IsMoveOf file.now moves.now choice m) }
 {
     let phase = phase_of(file, moves);
@@ -28,8 +29,7 @@ pub fn move_of(file: &DrawFile, moves: &[Move], choice: Choice) -> Option<Move>
     move_in(phase, choice)
 }
 
-/// The move that a choice is in a phase, or none where the phase takes no such choice. Takes no
-/// memory.
+/// The move that a choice is in a phase, or none where the phase takes no such choice.
 pub fn move_in(phase: Phase, choice: Choice) -> Option<Move>
     ensures { result ≡ move_in phase choice }
 {
@@ -53,14 +53,14 @@ fn is_candidate_in(file: &DrawFile, moves: &[Move], phase: Phase, choice: Choice
 
 /// Whether the team is a runner-up that was not drawn.
 fn is_undrawn(file: &DrawFile, moves: &[Move], team: TeamId) -> bool
-    ensures { IsTrue result ↔ (IsAmong (undrawn file.now moves.now) team) }
+    ensures { IsTrue result ↔ (IsAmong (undrawn_runners_up file.now moves.now) team) }
 {
     is_in_pot(file, team, 2) && !is_drawn(moves, team)
 }
 
 /// Whether the team is a winner that is not paired.
 fn is_unpaired(file: &DrawFile, moves: &[Move], team: TeamId) -> bool
-    ensures { IsTrue result ↔ (IsAmong (unpaired file.now moves.now) team) }
+    ensures { IsTrue result ↔ (IsAmong (unpaired_winners file.now moves.now) team) }
 {
     is_in_pot(file, team, 1) && !is_paired(moves, team)
 }

@@ -1,10 +1,11 @@
-ghost use Rattle.std.specs.Prelude.{◌≡◌, ℕ, ◌<◌, ◌^◌, length};
+ghost use Rattle.std.specs.Prelude.{◌≡◌, ◌↔◌, ◌<◌, ◌^◌, length};
 ghost use Rattle.rule_sets.specs.Files.{IsWellFormed};
 ghost use Rattle.rule_sets.specs.Forms.{HasForm};
 ghost use Rattle.draw_tables.specs.Pots.{AreTeamsOf, runners_up, winners};
-ghost use Rattle.draw_tables.specs.Passes.{IsJudgement, breaks, first_not_once, first_pair};
+ghost use Rattle.draw_tables.specs.Pairings.{breaks};
+ghost use Rattle.draw_tables.specs.Passes.{IsJudgement, first_not_once, first_pair};
 ghost use Rattle.draw_tables.specs.Tables.{IsLegal, IsPairTableOf, IsTableOf};
-ghost use Rattle.draw_tables.specs.Verdicts.{IsFirstBroken, times_given};
+ghost use Rattle.draw_tables.specs.Verdicts.{NamesFirstBroken, times_given};
 
 use crate::pair_rule::PairRule;
 use crate::rules::breaks;
@@ -14,12 +15,11 @@ use rule_sets::{DrawFile, law_files_have_form};
 use team_files::TeamId;
 
 /// What the rules of the draw say of a table: that it is legal, or the first case of the first rule
-/// that it breaks. Takes no memory.
+/// that it breaks.
 pub fn judge(file: &DrawFile, table: &Table) -> Verdict
     requires { IsTableOf file.now table.now }
-    ensures legal { result ≡ Verdict.Legal → IsLegal file.now table.now }
-    ensures only_legal { IsLegal file.now table.now → result ≡ Verdict.Legal }
-    ensures broken { (rule first second : ℕ) → result ≡ Verdict.Broken rule first second → IsFirstBroken file.now table.now rule first second }
+    ensures legal { (result ≡ Verdict.Legal) ↔ IsLegal file.now table.now }
+    ensures broken { NamesFirstBroken file.now table.now result }
 {
     match table {
         Table::Pairs(pairs) => judge_pairing(file, pairs.winners()),
@@ -51,7 +51,7 @@ fn judge_pairing(file: &DrawFile, winners: &[TeamId]) -> Verdict
     Verdict::Legal
 }
 
-/// What the type of a file says of its form, for the bounds in what follows. Does nothing.
+/// What the type of a file says of its form, for the bounds in what follows. It does nothing.
 pub(crate) fn expect_form(file: &DrawFile)
     ensures formed { IsWellFormed file.now }
     ensures form { HasForm file.now }

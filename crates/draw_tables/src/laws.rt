@@ -5,20 +5,20 @@ ghost use Rattle.draw_tables.specs.TableTexts.{OneTableOfText};
 
 use rule_sets::law_files_have_form;
 
-/// A table of a file is legal exactly where it breaks no rule. Does nothing.
+/// A table of a file is legal exactly where it breaks no rule.
 pub fn law_legal_where_nothing_broken()
     ensures legal { LegalWhereNoneBroken }
     ensures none_broken { NoneBrokenWhereLegal }
 {}
 
 /// A table has at most one first case of a broken rule, so that a verdict is a function of the
-/// table. Does nothing.
+/// table.
 pub fn law_one_first_broken()
     ensures { OneFirstBroken }
 {}
 
 /// Two tables of a file with one text are equal, so that what is written is read again as what was
-/// written. Does nothing.
+/// written.
 pub fn law_one_table_of_text()
     ensures { OneTableOfText }
 {
@@ -26,24 +26,23 @@ pub fn law_one_table_of_text()
 }
 
 /// A state has at most one offer, so that what is offered is a function of the file and the moves.
-/// Does nothing.
+///.
 pub fn law_one_offer()
     ensures { OneOffer }
 {}
 
-/// What is offered in a state is exactly what is possible in it. Does nothing.
+/// What is offered in a state is exactly what is possible in it.
 pub fn law_offered_where_possible()
     ensures { OfferedWherePossible }
 {}
 
 /// A state has an offer where it is decided of each candidate's move whether the moves with it can
-/// be completed. Does nothing.
+/// be completed.
 pub fn law_offer_where_decided()
     ensures { OfferWhereDecided }
 {}
 
-/// The moves, the phase, the candidates and the offer of a state name teams of its file only. Does
-/// nothing.
+/// The moves, the phase, the candidates and the offer of a state name teams of its file only.
 pub fn law_states_name_teams()
     ensures { StatesNameTeams }
 {}

@@ -1,4 +1,8 @@
-//! Tables, moves, phases and candidates of a draw, and what is possible, as the written rules have it.
+//! Tables, moves, phases and candidates of a draw, and what is possible, as the written rules have
+//! it.
+//!
+//! Said once for all functions: one takes memory only where it is passed an allocator, and its only
+//! error is then `NoMemory`, unless its text names another. The laws do nothing.
 #![tactic(auto)]
 
 mod candidacy;

@@ -11,7 +11,7 @@ pub struct PairTable {
 }
 
 impl PairTable {
-    /// The table that gives these winners. Takes no memory.
+    /// The table that gives these winners.
     pub fn new(winners: Vec<TeamId>) -> PairTable
         ensures { result.winners ≡ winners.items }
     {
@@ -20,7 +20,7 @@ impl PairTable {
         }
     }
 
-    /// The winners in the order of their runners-up. Takes no memory.
+    /// The winners in the order of their runners-up.
     pub fn winners(&self) -> &[TeamId]
         ensures { result.now ≡ self.now.winners }
     {

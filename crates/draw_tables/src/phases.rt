@@ -1,13 +1,13 @@
-ghost use Rattle.std.specs.Prelude.{◌≡◌, ◌≢◌, [], true, false};
+ghost use Rattle.std.specs.Prelude.{◌≡◌, ◌↔◌, [], IsTrue};
 ghost use Rattle.draw_tables.specs.Moves.{is_drawn, last_drawn};
-ghost use Rattle.draw_tables.specs.PairingPhases.{has_opponent, is_paired, waiting, undrawn, pairing_phase};
+ghost use Rattle.draw_tables.specs.PairingPhases.{has_opponent, is_paired, waiting_runner_up, undrawn_runners_up, pairing_phase};
 ghost use Rattle.draw_tables.specs.States.{phase_of};
 
 use crate::moves::{Move, Phase};
 use rule_sets::DrawFile;
 use team_files::{Kind, TeamId};
 
-/// What comes after the moves, by the kind of the draw. Takes no memory.
+/// What comes after the moves, by the kind of the draw.
 pub fn phase_of(file: &DrawFile, moves: &[Move]) -> Phase
     ensures { result ≡ phase_of file.now moves.now }
 {
@@ -21,16 +21,16 @@ pub fn phase_of(file: &DrawFile, moves: &[Move]) -> Phase
 fn pairing_phase(file: &DrawFile, moves: &[Move]) -> Phase
     ensures { result ≡ pairing_phase file.now moves.now }
 {
-    match waiting(moves) {
+    match waiting_runner_up(moves) {
         Some(runner) => Phase::Opponent { runner },
-        None if has_undrawn(file, moves) => Phase::Runner,
-        None => Phase::Complete,
+        None if are_all_drawn(file, moves) => Phase::Complete,
+        None => Phase::Runner,
     }
 }
 
 /// The last drawn runner-up, where it has no opponent.
-fn waiting(moves: &[Move]) -> Option<TeamId>
-    ensures { result ≡ waiting moves.now }
+fn waiting_runner_up(moves: &[Move]) -> Option<TeamId>
+    ensures { result ≡ waiting_runner_up moves.now }
 {
     let runner = last_drawn(moves)?;
     if has_opponent(moves, runner) {
@@ -56,55 +56,39 @@ fn last_drawn(moves: &[Move]) -> Option<TeamId>
 fn has_opponent(moves: &[Move], runner: TeamId) -> bool
     ensures { result ≡ has_opponent runner moves.now }
 {
-    for step in moves {
-        if let Move::Paired(other, _) = *step {
-            if other == runner {
-                return true;
-            }
-        }
-    }
-    false
+    moves
+        .iter()
+        .any(|step| matches!(*step, Move::Paired(other, _) if other == runner))
 }
 
 /// Whether the team was drawn.
 pub(crate) fn is_drawn(moves: &[Move], team: TeamId) -> bool
     ensures { result ≡ is_drawn team moves.now }
 {
-    for step in moves {
-        if let Move::Drawn(other) = *step {
-            if other == team {
-                return true;
-            }
-        }
-    }
-    false
+    moves
+        .iter()
+        .any(|step| matches!(*step, Move::Drawn(other) if other == team))
 }
 
 /// Whether the winner is paired.
 pub(crate) fn is_paired(moves: &[Move], winner: TeamId) -> bool
     ensures { result ≡ is_paired winner moves.now }
 {
-    for step in moves {
-        if let Move::Paired(_, other) = *step {
-            if other == winner {
-                return true;
-            }
-        }
-    }
-    false
+    moves
+        .iter()
+        .any(|step| matches!(*step, Move::Paired(_, other) if other == winner))
 }
 
-/// Whether some runner-up was not drawn.
-fn has_undrawn(file: &DrawFile, moves: &[Move]) -> bool
-    ensures yes { result ≡ true → undrawn file.now moves.now ≢ [] }
-    ensures no { result ≡ false → undrawn file.now moves.now ≡ [] }
+/// Whether each runner-up was drawn.
+fn are_all_drawn(file: &DrawFile, moves: &[Move]) -> bool
+    ensures { IsTrue result ↔ (undrawn_runners_up file.now moves.now ≡ []) }
 {
     let teams = file.teams();
     for place in 0..teams.number() {
         let id = TeamId(place);
         if teams.get(id).pot == 2 && !is_drawn(moves, id) {
-            return true;
+            return false;
         }
     }
-    false
+    true
 }

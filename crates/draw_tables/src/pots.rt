@@ -6,7 +6,7 @@ use rule_sets::DrawFile;
 use std::alloc::Global;
 use team_files::{TeamId, Teams};
 
-/// The teams of a pot in file order. `pot` counts from 1. The only error is want of memory.
+/// The teams of a pot in file order. `pot` counts from 1.
 pub fn teams_of_pot(alloc: Global, file: &DrawFile, pot: u32) -> Result<Vec<TeamId>, NoMemory>
     ensures teams { IfOk result (λ teams. teams.items ≡ teams_of_pot pot file.now) }
     ensures within { IfOk result (λ teams. AreTeamsOf file.now teams.items) }

@@ -11,7 +11,7 @@ pub enum Table {
 impl Table {
     ghost use Rattle.std.specs.Prelude.{◌≡◌, IfOk};
 
-    /// An equal table. The only error is want of memory.
+    /// An equal table.
     pub fn clone_in(&self, alloc: Global) -> Result<Table, AllocError>
         ensures { IfOk result (λ table. table ≡ self.now) }
     {

@@ -3,6 +3,6 @@
 pub enum TableFault {
     /// The bytes are the text of no table of the file.
     NotTable,
-    /// Want of memory.
+    /// Memory ran out.
     NoMemory,
 }

@@ -1,8 +1,7 @@
-ghost use Rattle.std.specs.Prelude.{◌≡◌, ◌+◌, ◌≤◌, ◌++◌, length, IfOk, OnOk, Some, Err, IsSome, option_map};
-ghost use Rattle.draw_tables.specs.declared.table.Table.{Table};
+ghost use Rattle.std.specs.Prelude.{◌≡◌, ◌+◌, ◌≤◌, length, IfOk, OnOk, Err, IsSome};
 ghost use Rattle.draw_tables.specs.Pots.{runners_up};
-ghost use Rattle.draw_tables.specs.Reading.{front_team, spaced_team, spaced_teams, teams_in};
-ghost use Rattle.draw_tables.specs.TableTexts.{IsTextOf};
+ghost use Rattle.draw_tables.specs.Reading.{AddsTeams, front_team, spaced_team, spaced_teams, teams_in};
+ghost use Rattle.draw_tables.specs.TableTexts.{IsTextOf, IsTextOfNone};
 
 use crate::judging::expect_form;
 use crate::pair_table::PairTable;
@@ -14,10 +13,10 @@ use team_files::{Code, Kind, TeamId, Teams};
 
 /// The table of the file that has these bytes as its text. In a pairing any team's code may stand
 /// where a winner is given. `NotTable` exactly where the bytes are the text of no table of the file;
-/// else the only fault is want of memory.
+/// else the only fault is `NoMemory`.
 pub fn read_table(alloc: Global, file: &DrawFile, bytes: &[u8]) -> Result<Table, TableFault>
     ensures ok { IfOk result (λ table. IsTextOf file.now table bytes.now) }
-    ensures not_table { result ≡ Err TableFault.NotTable → (table : Table) → IsTextOf file.now table bytes.now → ⊥ }
+    ensures not_table { result ≡ Err TableFault.NotTable → IsTextOfNone file.now bytes.now }
 {
     match file.kind() {
         Kind::Pairing => read_pairs(alloc, file, bytes),
@@ -28,7 +27,7 @@ pub fn read_table(alloc: Global, file: &DrawFile, bytes: &[u8]) -> Result<Table,
 fn read_pairs(alloc: Global, file: &DrawFile, bytes: &[u8]) -> Result<Table, TableFault>
     requires { file.now.kind ≡ Kind.Pairing }
     ensures ok { IfOk result (λ table. IsTextOf file.now table bytes.now) }
-    ensures not_table { result ≡ Err TableFault.NotTable → (table : Table) → IsTextOf file.now table bytes.now → ⊥ }
+    ensures not_table { result ≡ Err TableFault.NotTable → IsTextOfNone file.now bytes.now }
 {
     expect_form(file);
     let more = runners_after_first(file);
@@ -53,8 +52,10 @@ fn read_teams(
     more: u32,
     bytes: &[u8],
 ) -> Result<(), TableFault>
-    ensures ok { OnOk result (option_map (λ ts. found.old.items ++ ts) (teams_in teams.now more bytes.now) ≡ Some found.new.items) }
-    ensures not_table { result ≡ Err TableFault.NotTable → teams_in teams.now more bytes.now ≡ None }
+    ensures ok { OnOk result
+        (AddsTeams found.old.items (teams_in teams.now more bytes.now) found.new.items) }
+    ensures not_table { result ≡ Err TableFault.NotTable
+        → teams_in teams.now more bytes.now ≡ None }
 {
     let Some(team) = front_team(teams, bytes) else {
         return Err(TableFault::NotTable);
@@ -73,8 +74,10 @@ fn read_spaced(
     number: u32,
     bytes: &[u8],
 ) -> Result<(), TableFault>
-    ensures ok { OnOk result (option_map (λ ts. found.old.items ++ ts) (spaced_teams teams.now number bytes.now) ≡ Some found.new.items) }
-    ensures not_table { result ≡ Err TableFault.NotTable → spaced_teams teams.now number bytes.now ≡ None }
+    ensures ok { OnOk result
+        (AddsTeams found.old.items (spaced_teams teams.now number bytes.now) found.new.items) }
+    ensures not_table { result ≡ Err TableFault.NotTable
+        → spaced_teams teams.now number bytes.now ≡ None }
 {
     let mut rest = bytes;
     for _place in 0..number {

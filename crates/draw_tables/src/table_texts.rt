@@ -10,7 +10,7 @@ use std::alloc::Global;
 use team_files::TeamId;
 
 /// The text of a table: in a pairing, for each runner-up in file order, the code of its winner, with
-/// one space between the codes and none at the ends. The only error is want of memory.
+/// one space between the codes and none at the ends.
 pub fn table_text(alloc: Global, file: &DrawFile, table: &Table) -> Result<Vec<u8>, NoMemory>
     requires { IsTableOf file.now table.now }
     ensures { IfOk result (λ text. IsTextOf file.now table.now text.items) }

@@ -20,21 +20,21 @@ impl Model for TeamIds {
 }
 
 impl TeamIds {
-    /// The teams of a vector. Takes no memory.
+    /// The teams of a vector.
     pub fn new(ids: Vec<TeamId>) -> TeamIds
         ensures { result ≡ ids.items }
     {
         TeamIds { ids }
     }
 
-    /// The teams in order. Takes no memory.
+    /// The teams in order.
     pub fn as_slice(&self) -> &[TeamId]
         ensures { result.now ≡ self.now }
     {
         self.ids.as_slice()
     }
 
-    /// The same teams once more. The only error is want of memory.
+    /// The same teams once more.
     pub fn clone_in(&self, alloc: Global) -> Result<TeamIds, AllocError>
         ensures { IfOk result (λ ids. ids ≡ self.now) }
     {

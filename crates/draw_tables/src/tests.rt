@@ -116,7 +116,7 @@ const NO_TABLES: [&str; 14] = [
 ];
 
 /// What is told of a text: the verdict on its table, or `None` where it is no table.
-fn told(
+fn verdict_on(
     rt: &impl Abort,
     alloc: Global,
     teams: &str,
@@ -150,7 +150,7 @@ fn tables_are_judged(rt: HostRuntime) -> Result<(), Fail> {
                 second,
             }
         };
-        let said = told(&rt, rt.alloc(), teams, pairs, text)?;
+        let said = verdict_on(&rt, rt.alloc(), teams, pairs, text)?;
         assert_eq!(rt; said, Some(verdict), "{text} {pairs}");
     }
     Ok(())
@@ -159,7 +159,7 @@ fn tables_are_judged(rt: HostRuntime) -> Result<(), Fail> {
 #[test]
 fn other_texts_are_no_tables(rt: HostRuntime) -> Result<(), Fail> {
     for text in NO_TABLES {
-        let said = told(&rt, rt.alloc(), ROUND_OF_16, "", text)?;
+        let said = verdict_on(&rt, rt.alloc(), ROUND_OF_16, "", text)?;
         assert_eq!(rt; said, None, "{text}");
     }
     Ok(())

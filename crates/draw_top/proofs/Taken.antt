@@ -12,7 +12,7 @@ use Rattle.draw_state.specs.Commands.{IsAcceptedCommand, Adds}
 use Rattle.draw_state.specs.Runs.{IsNextLine, IsStep}
 use Rattle.draw_state.specs.Replies.{IsFileReply}
 use Rattle.draw_state.proofs.Steps.{adds_move, added_stay, last_named, next_named}
-use Rattle.draw_tables.proofs.Named.{states_name_teams}
+use Rattle.draw_tables.proofs.NamedTeams.{states_name_teams}
 use Rattle.draw_top.specs.Turns.{Turn}
 use Rattle.draw_top.specs.Replies.{TakesBall}
 

@@ -3,6 +3,8 @@ use Rattle.std.proofs.Common.{◌≡◌, ℕ, ◌+◌, ◌*◌, ◌<◌, Bool, t
 use Rattle.std.specs.Prelude.{◌==◌, ◌||◌, option_and_then}
 use Rattle.std.specs.List.{list_any, AllByRecursion as Each}
 use Rattle.std.specs.Option.{option_or}
+use Rattle.std.proofs.lemmas.Bool.{cases_Bool, eqb-true, eq-eqb, false_from_ne_true}
+use Rattle.std.proofs.lemmas.Option.{slice_get_within}
 use Rattle.team_files.specs.declared.kind.Kind.{Kind}
 use Rattle.team_files.specs.declared.team_id.TeamId.{TeamId}
 use Rattle.team_files.specs.Members.{where_true}
@@ -14,20 +16,18 @@ use Rattle.draw_tables.specs.declared.moves.Move.{Move}
 use Rattle.draw_tables.specs.declared.moves.Move.TheVariants.{Drawn, Paired}
 use Rattle.draw_tables.specs.declared.moves.Choice.{Choice}
 use Rattle.draw_tables.specs.declared.moves.Choice.TheVariants.{Team}
-use Rattle.draw_tables.specs.Pots.{winners, runners_up, IsAmong}
+use Rattle.draw_tables.specs.Lists.{IsAmong}
+use Rattle.draw_tables.specs.Pots.{winners, runners_up}
 use Rattle.draw_tables.specs.Moves.{last_drawn, drawn_team, is_drawn}
-use Rattle.draw_tables.specs.PairingPhases.{waiting, has_opponent, undrawn, unpaired, is_paired, pairs_winner, pairing_phase_with}
+use Rattle.draw_tables.specs.PairingPhases.{waiting_runner_up, has_opponent, undrawn_runners_up, unpaired_winners, is_paired, pairs_winner, pairing_phase_with}
 use Rattle.draw_tables.specs.States.{candidates_in, move_in, IsCandidateMove, AreMovesAfter, IsState}
-use Rattle.draw_tables.proofs.Among.{among_kept, among_choices}
+use Rattle.draw_tables.proofs.PotMembers.{among_kept, among_choices}
 use Rattle.draw_tables.proofs.StateMoves.{phase_of_pairing}
+use Rattle.draw_tables.proofs.Lists.{same_item, none_among}
+use Rattle.draw_tables.proofs.Numbers.{same_id}
 use Rattle.pairing_draw.specs.Encoding.{pair_lit, place_of, lits_of_moves}
-use Rattle.pairing_draw.proofs.Numbers.{atom_within, same_atom}
-use Rattle.pairing_draw.proofs.Pieces.{place_found}
-use Rattle.pairing_draw.proofs.Tables.{within, same_entry, same_id, is_equal, equal}
-
-either : (b : Bool) → (b ≡ true) ⊎ (b ≡ false)
-either true = inl refl
-either false = inr refl
+use Rattle.pairing_draw.proofs.AtomNumbers.{atom_within, same_atom}
+use Rattle.pairing_draw.proofs.PlacedLists.{place_found}
 
 -- ---- lists
 
@@ -70,7 +70,7 @@ module _ (file : DrawFile) (kind : file.kind ≡ Kind.Pairing) where
       by_cases None is (Drawn s) k e rest = let q : s ≡ t = cc in subst (IsAmong (runners_up file)) q k
       by_cases None is (Paired s v) k e rest = cc
 
-  wait_last : (ms : List Move) (r : TeamId) → waiting ms ≡ Some r → last_drawn ms ≡ Some r
+  wait_last : (ms : List Move) (r : TeamId) → waiting_runner_up ms ≡ Some r → last_drawn ms ≡ Some r
   wait_last ms r e = by_cases (last_drawn ms) e
     where
       inner : (s : TeamId) (b : Bool) → where_true b s ≡ Some r → Some s ≡ Some r
@@ -86,20 +86,17 @@ module _ (file : DrawFile) (kind : file.kind ≡ Kind.Pairing) where
     known : IsKnown file m
     fresh : (w : TeamId) → pairs_winner w m ≡ true → is_paired w before ≡ false
 
-  in_phase : (before : List Move) → Each (IsKnown file) before → (o : Option TeamId) → waiting before ≡ o → (left : List TeamId) → undrawn file before ≡ left
+  in_phase : (before : List Move) → Each (IsKnown file) before → (o : Option TeamId) → waiting_runner_up before ≡ o → (left : List TeamId) → undrawn_runners_up file before ≡ left
       → (c : Choice) (m : Move) → IsAmong (candidates_in file before (pairing_phase_with o left)) c → move_in (pairing_phase_with o left) c ≡ Some m → IsNext before m
-  in_phase before h None is [] are c m among e = absurd (none among.0 among.1)
-    where
-      none : (k : ℕ) → slice_get [] k ≡ Some c → ⊥
-      none k e = cc
+  in_phase before h None is [] are c m among e = absurd (none_among c among)
   in_phase before h None is (x ∷ xs) are (Team t) m among e =
-      let found = among_kept (λ r. not (is_drawn r before)) (runners_up file) t (among_choices (undrawn file before) t among) in
-      subst (IsNext before) (same_entry (Drawn t) m e) (record { known = found.1; fresh = λ w d. cc })
+      let found = among_kept (λ r. not (is_drawn r before)) (runners_up file) t (among_choices (undrawn_runners_up file before) t among) in
+      subst (IsNext before) (same_item (Drawn t) m e) (record { known = found.1; fresh = λ w d. cc })
   in_phase before h (Some r) is left are (Team t) m among e =
-      let found = among_kept (λ w. not (is_paired w before)) (winners file) t (among_choices (unpaired file before) t among) in
-      subst (IsNext before) (same_entry (Paired r t) m e) (record {
+      let found = among_kept (λ w. not (is_paired w before)) (winners file) t (among_choices (unpaired_winners file before) t among) in
+      subst (IsNext before) (same_item (Paired r t) m e) (record {
         known = (last_known before r h (wait_last before r is), found.1);
-        fresh = λ w d. off (is_paired w before) (ap (λ x. not (is_paired x before)) (same_id w t (sym (is_equal t.0 w.0 d))) ∙ found.0);
+        fresh = λ w d. off (is_paired w before) (ap (λ x. not (is_paired x before)) (same_id w t (sym (eqb-true t.0 w.0 d))) ∙ found.0);
       })
     where
       off : (b : Bool) → not b ≡ true → b ≡ false
@@ -109,7 +106,7 @@ module _ (file : DrawFile) (kind : file.kind ≡ Kind.Pairing) where
   next_is : (before : List Move) (m : Move) → Each (IsKnown file) before → IsCandidateMove file before m → IsNext before m
   next_is before m h c =
       let phase = phase_of_pairing file before kind in
-      in_phase before h (waiting before) refl (undrawn file before) refl c.0 m
+      in_phase before h (waiting_runner_up before) refl (undrawn_runners_up file before) refl c.0 m
       (subst (λ p. IsAmong (candidates_in file before p) c.0) phase c.1.0)
       (subst (λ p. move_in p c.0 ≡ Some m) phase c.1.1)
 
@@ -119,6 +116,7 @@ module _ (file : DrawFile) (kind : file.kind ≡ Kind.Pairing) where
       let next = next_is before m h g.0 in
       (next.known, known_after (before ++ m ∷ []) ms (each_push (IsKnown file) before m h next.known) g.1)
 
+  -- a state's moves are about runners-up and winners of the file
   pub state_known : (ms : List Move) → IsState file ms → Each (IsKnown file) ms
   state_known ms h = known_after [] ms tt h
 
@@ -128,7 +126,7 @@ module _ (file : DrawFile) (kind : file.kind ≡ Kind.Pairing) where
   not_again w before [] h g e = refl
   not_again w before (m ∷ ms) h g e =
       let next = next_is before m h g.0 in
-      by_cases (either (pairs_winner w m)) (next.fresh w) (not_again w (before ++ m ∷ []) ms (each_push (IsKnown file) before m h next.known) g.1 (any_more (pairs_winner w) before (m ∷ []) e))
+      by_cases (cases_Bool (pairs_winner w m)) (next.fresh w) (not_again w (before ++ m ∷ []) ms (each_push (IsKnown file) before m h next.known) g.1 (any_more (pairs_winner w) before (m ∷ []) e))
     where
       by_cases : (pairs_winner w m ≡ true) ⊎ (pairs_winner w m ≡ false) → (pairs_winner w m ≡ true → is_paired w before ≡ false) → is_paired w ms ≡ false → (pairs_winner w m || is_paired w ms) ≡ false
       by_cases (inl is) fresh rest = let s = fresh is in cc
@@ -142,10 +140,11 @@ module _ (file : DrawFile) (kind : file.kind ≡ Kind.Pairing) where
   apart_after before (Paired r w ∷ ms) h g =
       let next = next_is before (Paired r w) h g.0 in
       let known = each_push (IsKnown file) before (Paired r w) h next.known in (
-        not_again w (before ++ Paired r w ∷ []) ms known g.1 (any_last (pairs_winner w) before (Paired r w) (equal w.0 w.0 refl)),
+        not_again w (before ++ Paired r w ∷ []) ms known g.1 (any_last (pairs_winner w) before (Paired r w) (eq-eqb w.0 w.0 refl)),
         apart_after (before ++ Paired r w ∷ []) ms known g.1,
       )
 
+  -- a state pairs each winner once
   pub state_apart : (ms : List Move) → IsState file ms → Apart ms
   state_apart ms h = apart_after [] ms tt h
 
@@ -153,11 +152,12 @@ module _ (file : DrawFile) (kind : file.kind ≡ Kind.Pairing) where
 
 module _ (file : DrawFile) where
   place_within : (t : TeamId) (xs : List TeamId) → IsAmong xs t → place_of t xs < length xs
-  place_within t xs h = within xs (place_of t xs) t (place_found t xs h.0 h.1)
+  place_within t xs h = slice_get_within xs (place_of t xs) t (place_found t xs h.0 h.1)
 
   same_place : (t s : TeamId) (xs : List TeamId) → IsAmong xs t → IsAmong xs s → place_of t xs ≡ place_of s xs → t ≡ s
-  same_place t s xs h g e = same_entry t s (sym (place_found t xs h.0 h.1) ∙ ap (slice_get xs) e ∙ place_found s xs g.0 g.1)
+  same_place t s xs h g e = same_item t s (sym (place_found t xs h.0 h.1) ∙ ap (slice_get xs) e ∙ place_found s xs g.0 g.1)
 
+  -- the literals are over atoms of the problem
   pub lits_within : (ms : List Move) → Each (IsKnown file) ms → are_within (length (runners_up file) * length (winners file)) (lits_of_moves file ms) ≡ true
   lits_within ms h = within_from_each (length (runners_up file) * length (winners file)) (lits_of_moves file ms) (each ms h)
     where
@@ -173,29 +173,27 @@ module _ (file : DrawFile) where
       → mentions (pair_lit (length (winners file)) (place_of r (runners_up file)) (place_of w (winners file))).atom.0 (lits_of_moves file ms) ≡ false
   other_atoms r w at [] h e = refl
   other_atoms r w at (Drawn t ∷ ms) h e = other_atoms r w at ms h.1 e
-  other_atoms r w at (Paired s v ∷ ms) h e = by_cases (either (v.0 == w.0)) e (other_atoms r w at ms h.1)
+  other_atoms r w at (Paired s v ∷ ms) h e = by_cases (cases_Bool (v.0 == w.0)) e (other_atoms r w at ms h.1)
     where
-      off : (b : Bool) → (b ≡ true → ⊥) → b ≡ false
-      off true h = absurd (h refl)
-      off false h = refl
-
       by_cases : ((v.0 == w.0) ≡ true) ⊎ ((v.0 == w.0) ≡ false) → ((v.0 == w.0) || is_paired w ms) ≡ false
           → (is_paired w ms ≡ false → mentions (pair_lit (length (winners file)) (place_of r (runners_up file)) (place_of w (winners file))).atom.0 (lits_of_moves file ms) ≡ false)
           → mentions (pair_lit (length (winners file)) (place_of r (runners_up file)) (place_of w (winners file))).atom.0 (lits_of_moves file (Paired s v ∷ ms)) ≡ false
       by_cases (inl is) e rest = cc
       by_cases (inr isnt) e rest =
-          let differ = off ((place_of s (runners_up file) * (length (winners file)) + place_of v (winners file)) == (place_of r (runners_up file) * (length (winners file)) + place_of w (winners file))) (λ q.
-          let same = same_atom (length (winners file)) (place_of s (runners_up file)) (place_of r (runners_up file)) (place_of v (winners file)) (place_of w (winners file)) (place_within v (winners file) h.0.1) (place_within w (winners file) at) (is_equal _ _ q) in
+          let differ = false_from_ne_true ((place_of s (runners_up file) * (length (winners file)) + place_of v (winners file)) == (place_of r (runners_up file) * (length (winners file)) + place_of w (winners file))) (λ q.
+          let same = same_atom (length (winners file)) (place_of s (runners_up file)) (place_of r (runners_up file)) (place_of v (winners file)) (place_of w (winners file)) (place_within v (winners file) h.0.1) (place_within w (winners file) at) (eqb-true _ _ q) in
           let teams = same_place v w (winners file) h.0.1 at same.1 in
-          let t = equal v.0 w.0 (ap (λ x. x.0) teams) in
+          let t = eq-eqb v.0 w.0 (ap (λ x. x.0) teams) in
           cc) in
           rw differ (rest (rw isnt at e))
 
+  -- and these are different
   pub lits_distinct : (ms : List Move) → Each (IsKnown file) ms → Apart ms → repeats (lits_of_moves file ms) ≡ false
   lits_distinct [] h g = refl
   lits_distinct (Drawn t ∷ ms) h g = lits_distinct ms h.1 g
   lits_distinct (Paired r w ∷ ms) h g = rw (other_atoms r w h.0.1 ms h.1 g.0) (lits_distinct ms h.1 g.1)
 
+-- the literals of a state's moves make a question
 pub are_questions : (file : DrawFile) (ms : List Move) → file.kind ≡ Kind.Pairing → IsState file ms
     → (are_within (length (runners_up file) * length (winners file)) (lits_of_moves file ms) ≡ true) × (repeats (lits_of_moves file ms) ≡ false)
 are_questions file ms kind h = let known = state_known file kind ms h in (lits_within file ms known, lits_distinct file ms known (state_apart file kind ms h))

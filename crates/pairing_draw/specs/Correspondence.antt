@@ -24,7 +24,8 @@ pub record Meets (file : DrawFile) (ms : List Move) (values : List Bool) : Type 
 -- The values of a legal table that extends the moves meet the rules and the moves.
 abbrev pub TablesSatisfy : Type 0
 TablesSatisfy = (file : DrawFile) (ms : List Move) (table : Table)
-    → file.kind ≡ Kind.Pairing → IsLegal file table → Extends file table ms → Meets file ms (values_of file table)
+    → file.kind ≡ Kind.Pairing → IsLegal file table → Extends file table ms
+    → Meets file ms (values_of file table)
 
 -- Where some assignment meets the rules and a state's moves, some legal table extends the moves.
 abbrev pub ValuesComplete : Type 0
@@ -34,20 +35,29 @@ ValuesComplete = (file : DrawFile) (ms : List Move) (values : List Bool)
 -- A state is completable exactly where some assignment meets the rules and its moves.
 abbrev pub CompletableWhereSatisfied : Type 0
 CompletableWhereSatisfied = (file : DrawFile) (ms : List Move)
-    → file.kind ≡ Kind.Pairing → IsState file ms → (IsCompletable file ms ↔ ((values : List Bool) × Meets file ms values))
+    → file.kind ≡ Kind.Pairing → IsState file ms
+    → (IsCompletable file ms ↔ ((values : List Bool) × Meets file ms values))
 
 -- The rules of a file make a problem.
 abbrev pub RulesAreFormed : Type 0
-RulesAreFormed = (file : DrawFile) → file.kind ≡ Kind.Pairing → IsWellFormed file → IsWellFormedProblem (rules_of file)
+RulesAreFormed = (file : DrawFile)
+    → file.kind ≡ Kind.Pairing → IsWellFormed file → IsWellFormedProblem (rules_of file)
 
 -- The literals of a state's moves are over different atoms of the problem.
 abbrev pub MovesAreQuestions : Type 0
 MovesAreQuestions = (file : DrawFile) (ms : List Move) → file.kind ≡ Kind.Pairing → IsState file ms
-    → (are_within (rules_of file).atoms (lits_of_moves file ms) ≡ true) × (repeats (lits_of_moves file ms) ≡ false)
+    → (are_within (rules_of file).atoms (lits_of_moves file ms) ≡ true)
+    × (repeats (lits_of_moves file ms) ≡ false)
 
--- The atom of a runner-up and a winner, at their places in their pots, is true by the values of a table
--- exactly where the table gives that runner-up that winner.
+-- the atom of a runner-up and a winner, at their places in their pots, is true
+abbrev pub IsTruePair : DrawFile → List Bool → ℕ → ℕ → Type 0
+IsTruePair file values r w = value_of values (atom_of (length (winners file)) r w) ≡ true
+
+-- By the values of a table the atom of a runner-up and a winner is true exactly where the table gives
+-- that runner-up that winner.
 abbrev pub ValuesTellPairs : Type 0
 ValuesTellPairs = (file : DrawFile) (pairs : PairTable) (r w : ℕ) (runner_up winner : TeamId)
-    → IsTableOf file (Pairs pairs) → slice_get (runners_up file) r ≡ Some runner_up → slice_get (winners file) w ≡ Some winner
-    → ((value_of (values_of file (Pairs pairs)) (atom_of (length (winners file)) r w) ≡ true) ↔ GivesOpponent file pairs.winners runner_up winner)
+    → IsTableOf file (Pairs pairs)
+    → slice_get (runners_up file) r ≡ Some runner_up → slice_get (winners file) w ≡ Some winner
+    → (IsTruePair file (values_of file (Pairs pairs)) r w
+        ↔ GivesOpponent file pairs.winners runner_up winner)

@@ -1,10 +1,10 @@
-ghost use Rattle.std.specs.Prelude.{◌≡◌, ℕ, ◌≤◌, ◌<◌, length, true, slice_get, Some, None, IfOk};
+ghost use Rattle.std.specs.Prelude.{◌≡◌, ℕ, ◌≤◌, ◌<◌, length, IfOk, MatchOption};
 ghost use Rattle.team_files.specs.Heads.{most_teams};
-ghost use Rattle.count_core.specs.Assignments.{Satisfies, SatisfiesQuestion, value_of};
+ghost use Rattle.count_core.specs.Assignments.{Satisfies, SatisfiesQuestion};
 ghost use Rattle.draw_tables.specs.Offers.{Extends};
 ghost use Rattle.draw_tables.specs.States.{IsState};
 ghost use Rattle.draw_tables.specs.Tables.{IsLegal, IsTableOf};
-ghost use Rattle.pairing_draw.specs.Encoding.{IsRead, IsReadTable, atom_of, lits_of_moves, rules_of};
+ghost use Rattle.pairing_draw.specs.Encoding.{HasTrueAtom, IsRead, IsReadTable, IsTrueWinner, lits_of_moves, rules_of};
 
 use crate::NoMemory;
 use crate::pots::pot_of;
@@ -15,7 +15,7 @@ use team_files::{Kind, TeamId};
 
 /// The table of values that satisfy the rules of a pairing's file and make the literals of a state's
 /// moves true: it gives each runner-up the winner whose atom is true. It is a table of the file, is
-/// legal and extends the moves. Values are by atom from 0. The only error is want of memory.
+/// legal and extends the moves. Values are by atom from 0.
 pub fn decode(
     alloc: Global,
     file: &DrawFile,
@@ -46,7 +46,7 @@ fn read_rows(
 ) -> Result<Vec<TeamId>, NoMemory>
     requires runners { runners ≤ most_teams }
     requires winners { length winners.now ≤ most_teams }
-    requires each { (r : ℕ) → r < runners → (w : ℕ) × (w < length winners.now) × (value_of values.now (atom_of (length winners.now) r w) ≡ true) }
+    requires each { (r : ℕ) → r < runners → HasTrueAtom values.now (length winners.now) r }
     ensures { IfOk result (λ given. IsRead values.now runners winners.now given.items) }
 {
     let mut given = Vec::new(alloc);
@@ -60,8 +60,9 @@ fn read_rows(
 fn winner_of(values: &[bool], runner: usize, winners: &[TeamId]) -> Option<TeamId>
     requires runner { runner ≤ most_teams }
     requires winners { length winners.now ≤ most_teams }
-    ensures found { (given : TeamId) → result ≡ Some given → (w : ℕ) × (slice_get winners.now w ≡ Some given) × (value_of values.now (atom_of (length winners.now) runner w) ≡ true) }
-    ensures none { result ≡ None → (w : ℕ) → w < length winners.now → value_of values.now (atom_of (length winners.now) runner w) ≡ true → ⊥ }
+    ensures { MatchOption result
+        (¬ HasTrueAtom values.now (length winners.now) runner)
+        (λ winner. IsTrueWinner values.now winners.now runner winner) }
 {
     for (place, winner) in winners.iter().enumerate() {
         let atom = runner * winners.len() + place;

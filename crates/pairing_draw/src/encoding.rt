@@ -1,9 +1,8 @@
-ghost use Rattle.std.specs.Prelude.{◌≡◌, ◌+◌, ◌*◌, ◌≤◌, ◌<◌, ◌^◌, ◌++◌, length, map, IfOk, OnOk};
-ghost use Rattle.std.specs.List.{range_with_len, enumerate_from, flat_map};
+ghost use Rattle.std.specs.Prelude.{◌≡◌, ◌≤◌, ◌<◌, ◌++◌, length, IfOk, OnOk};
 ghost use Rattle.team_files.specs.Heads.{most_teams};
 ghost use Rattle.count_core.specs.Problems.{IsWellFormed};
 ghost use Rattle.draw_tables.specs.Pots.{AreTeamsOf};
-ghost use Rattle.pairing_draw.specs.Encoding.{bans_of, column_rule, exactly_one, never, pair_lit, row_rule, rules_between, rules_of};
+ghost use Rattle.pairing_draw.specs.Encoding.{ban_rules, bans_of, column_rule, column_rules, exactly_one, never, pair_lit, problem_between, row_rule, row_rules, rules_of};
 
 use crate::NoMemory;
 use crate::atoms::pair_lit;
@@ -19,7 +18,7 @@ use team_files::{Kind, TeamId};
 /// counted from 0, each in the file order of their pot; with n winners, the atom of runner-up r and
 /// winner w is `r * n + w`. The rules, in this order: for each runner-up, one of its atoms is true;
 /// for each winner, one of its atoms is true; for each runner-up and each winner that it may not
-/// meet, their atom is not true. The only error is want of memory.
+/// meet, their atom is not true.
 pub fn encode(alloc: Global, file: &DrawFile) -> Result<Problem, NoMemory>
     requires kind { file.now.kind ≡ Kind.Pairing }
     ensures { IfOk result (λ p. p ≡ rules_of file.now) }
@@ -41,8 +40,8 @@ fn problem_between(
     requires few_winners { length winners.now ≤ most_teams }
     requires runners { AreTeamsOf file.now runners.now }
     requires winners { AreTeamsOf file.now winners.now }
-    requires formed { IsWellFormed (record { atoms = length runners.now * length winners.now; rules = rules_between file.now runners.now winners.now }) }
-    ensures { IfOk result (λ p. p ≡ record { atoms = length runners.now * length winners.now; rules = rules_between file.now runners.now winners.now }) }
+    requires formed { IsWellFormed (problem_between file.now runners.now winners.now) }
+    ensures { IfOk result (λ problem. problem ≡ problem_between file.now runners.now winners.now) }
 {
     let mut rules = Vec::new(alloc);
     add_rows(alloc, &mut rules, runners.len(), winners.len())?;
@@ -51,7 +50,7 @@ fn problem_between(
     problem_of(alloc, (runners.len() * winners.len()) as u32, rules)
 }
 
-/// The problem of rules that are well formed. The only error is want of memory.
+/// The problem of rules that are well formed.
 fn problem_of(alloc: Global, atoms: u32, rules: Vec<CountRule>) -> Result<Problem, NoMemory>
     requires formed { IsWellFormed (record { atoms = atoms; rules = rules.items }) }
     ensures { IfOk result (λ p. p ≡ record { atoms = atoms; rules = rules.items }) }
@@ -82,7 +81,7 @@ fn add_rows(
 ) -> Result<(), NoMemory>
     requires runners { runners ≤ most_teams }
     requires winners { winners ≤ most_teams }
-    ensures { OnOk result (rules.new.items ≡ rules.old.items ++ map (row_rule winners) (range_with_len 0 runners)) }
+    ensures { OnOk result (rules.new.items ≡ rules.old.items ++ row_rules runners winners) }
 {
     for runner in 0..runners {
         rules.push(row_rule(alloc, winners, runner)?)?;
@@ -91,7 +90,7 @@ fn add_rows(
 }
 
 /// The rule that a runner-up gets one winner.
-#[tactic(auto, using(crate::proofs::Numbers::numbers_more))]
+#[tactic(auto, using(crate::proofs::AtomNumbers::numbers_more))]
 fn row_rule(alloc: Global, winners: usize, runner: usize) -> Result<CountRule, NoMemory>
     requires winners { winners ≤ most_teams }
     requires runner { runner ≤ most_teams }
@@ -113,7 +112,7 @@ fn add_columns(
 ) -> Result<(), NoMemory>
     requires runners { runners ≤ most_teams }
     requires winners { winners ≤ most_teams }
-    ensures { OnOk result (rules.new.items ≡ rules.old.items ++ map (column_rule runners winners) (range_with_len 0 winners)) }
+    ensures { OnOk result (rules.new.items ≡ rules.old.items ++ column_rules runners winners) }
 {
     for winner in 0..winners {
         rules.push(column_rule(alloc, runners, winners, winner)?)?;
@@ -122,7 +121,7 @@ fn add_columns(
 }
 
 /// The rule that a winner is given to one runner-up.
-#[tactic(auto, using(crate::proofs::Numbers::numbers_more))]
+#[tactic(auto, using(crate::proofs::AtomNumbers::numbers_more))]
 fn column_rule(
     alloc: Global,
     runners: usize,
@@ -153,7 +152,8 @@ fn add_bans(
     requires few_winners { length winners.now ≤ most_teams }
     requires runners { AreTeamsOf file.now runners.now }
     requires winners { AreTeamsOf file.now winners.now }
-    ensures { OnOk result (rules.new.items ≡ rules.old.items ++ flat_map (bans_of file.now winners.now) (enumerate_from 0 runners.now)) }
+    ensures { OnOk result
+        (rules.new.items ≡ rules.old.items ++ ban_rules file.now runners.now winners.now) }
 {
     for (place, runner) in runners.iter().enumerate() {
         add_bans_of(alloc, rules, file, place, *runner, winners)?;
@@ -174,7 +174,8 @@ fn add_bans_of(
     requires place { place ≤ most_teams }
     requires runner { runner.0 < length file.now.teams }
     requires winners { AreTeamsOf file.now winners.now }
-    ensures { OnOk result (rules.new.items ≡ rules.old.items ++ bans_of file.now winners.now (place, runner)) }
+    ensures { OnOk result
+        (rules.new.items ≡ rules.old.items ++ bans_of file.now winners.now (place, runner)) }
 {
     for (other, winner) in winners.iter().enumerate() {
         if may_meet(file, runner, *winner) {

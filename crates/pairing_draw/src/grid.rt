@@ -18,7 +18,8 @@ pub(crate) fn grid_of(
 ) -> Result<Vec<Vec<bool>>, AllocError>
     requires runners { AreTeamsOf file.now runners.now }
     requires winners { AreTeamsOf file.now winners.now }
-    ensures { IfOk result (λ rows. rows_of rows.items ≡ grid_of file.now moves.now winners.now runners.now) }
+    ensures { IfOk result (λ rows.
+        rows_of rows.items ≡ grid_of file.now moves.now winners.now runners.now) }
 {
     let mut rows = Vec::new(alloc);
     for runner in runners {
@@ -51,38 +52,39 @@ fn row_of(
 fn all_allow(moves: &[Move], runner: TeamId, winner: TeamId) -> bool
     ensures { result ≡ list_all (allows runner winner) moves.now }
 {
-    for step in moves {
-        if let Move::Paired(other, given) = *step {
-            if other == runner && given != winner {
-                return false;
-            }
-        }
+    moves.iter().all(|step| allows(*step, runner, winner))
+}
+
+/// Whether a table that agrees with the move can give the runner-up the winner.
+fn allows(step: Move, runner: TeamId, winner: TeamId) -> bool
+    ensures { result ≡ allows runner winner step }
+{
+    match step {
+        Move::Paired(other, given) if other == runner => given == winner,
+        _ => true,
     }
-    true
 }
 
 /// Whether each pair names a runner-up of the list.
 pub(crate) fn all_name_runners(runners: &[TeamId], moves: &[Move]) -> bool
     ensures { result ≡ list_all (names_runner runners.now) moves.now }
 {
-    for step in moves {
-        if let Move::Paired(runner, _) = *step {
-            if !is_among(runners, runner) {
-                return false;
-            }
-        }
+    moves.iter().all(|step| names_runner(runners, *step))
+}
+
+/// Whether the move, if it is a pair, names a runner-up of the list.
+fn names_runner(runners: &[TeamId], step: Move) -> bool
+    ensures { result ≡ names_runner runners.now step }
+{
+    match step {
+        Move::Drawn(_) => true,
+        Move::Paired(runner, _) => is_among(runners, runner),
     }
-    true
 }
 
 /// Whether the list has the team.
 fn is_among(teams: &[TeamId], team: TeamId) -> bool
     ensures { result ≡ list_any (λ t. t.0 == team.0) teams.now }
 {
-    for other in teams {
-        if *other == team {
-            return true;
-        }
-    }
-    false
+    teams.iter().any(|other| *other == team)
 }

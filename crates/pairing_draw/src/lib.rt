@@ -1,4 +1,7 @@
 //! The offer of a state of a pairing draw, and a pairing as a count problem.
+//!
+//! Said once for all functions: one takes memory only where it is passed an allocator, and its only
+//! error is `NoMemory`. The laws do nothing.
 #![tactic(auto)]
 
 mod atoms;

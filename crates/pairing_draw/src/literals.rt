@@ -13,7 +13,7 @@ use std::alloc::Global;
 use team_files::{Kind, TeamId};
 
 /// The literals of the moves of a pairing's state: for each pair of a runner-up and a winner, in
-/// order, that its atom is true. The only error is want of memory.
+/// order, that its atom is true.
 pub fn lits_of(alloc: Global, file: &DrawFile, moves: &[Move]) -> Result<Vec<Lit>, NoMemory>
     requires kind { file.now.kind ≡ Kind.Pairing }
     requires state { IsState file.now moves.now }

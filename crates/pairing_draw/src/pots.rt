@@ -9,8 +9,7 @@ use rule_sets::{DrawFile, law_files_have_form};
 use std::alloc::Global;
 use team_files::TeamId;
 
-/// The teams of a pot in file order, no more than a file may have. `pot` counts from 1. The only
-/// error is want of memory.
+/// The teams of a pot in file order, no more than a file may have. `pot` counts from 1.
 pub(crate) fn pot_of(alloc: Global, file: &DrawFile, pot: u32) -> Result<Vec<TeamId>, NoMemory>
     ensures teams { IfOk result (λ teams. teams.items ≡ teams_of_pot pot file.now) }
     ensures within { IfOk result (λ teams. AreTeamsOf file.now teams.items) }

@@ -312,6 +312,7 @@ has_file bytes none = go (read_or_not bytes)
     go (inl v) = by v.0 v.1 (file_or_fault v.0)
     go (inr n) = absurd (none FileFault.NotJson n)
 
+-- what bytes are refused for is their first fault
 pub tells_first_fault_of_bytes : TellsFirstFaultOfBytes
 tells_first_fault_of_bytes = record {
   fault = λ bytes fault. ((λ h. told bytes fault h), λ h. told_back bytes fault h);

@@ -173,6 +173,7 @@ coded i f t e = go (is_code f.code) refl e
     go true is h = let same : f.code ≡ t.code = cc in ap is_code (sym same) ∙ is
     go false is h = cc
 
+-- each team of a head has a code
 pub all_coded : (i : ℕ) (fs : List TeamFields) (ts : List Team) → teams_from i fs ≡ Ok ts → All HasCode ts
 all_coded i [] ts e = let none : ts ≡ [] = cc in rw none (All-nil HasCode)
 all_coded i (f ∷ fs) ts e =
@@ -194,6 +195,7 @@ teams_size i (f ∷ fs) ts e =
 few_teams : (fields : HeadFields) → too_many_fault fields ≡ None → length fields.teams ≤ most_teams
 few_teams fields e = grind (arith, nat_tests)
 
+-- a file has as many pairs as its head
 pub pairs_size : (teams : List Team) (i : ℕ) (ps : List HeadPair) (pairs : List Pair)
     → pairs_from teams i ps ≡ Ok pairs → length pairs ≡ length ps
 pairs_size teams i [] pairs e = let none : pairs ≡ [] = cc in rw none refl
@@ -250,6 +252,7 @@ named_within teams text id e = go (is_code text) e
 unequal : (a b : ℕ) → (a == b) ≡ false → a ≢ b
 unequal a b e same = grind (arith, nat_tests)
 
+-- a pair that was looked up names the teams of its texts
 pub pair_is : (place : ℕ) (a b : Option TeamId) (p : Pair)
     → pair_at place a b ≡ Ok p → (a ≡ Some p.first) × (b ≡ Some p.second) × (p.first.0 ≢ p.second.0)
 pair_is place None b p e = cc
@@ -341,6 +344,7 @@ pub record FileParts (head : Head) (limits : List Limit) (pairs : List Pair) (pl
   pub places_are : places_of head.kind head ≡ Ok places
   pub whole : file_with head limits pairs places ≡ file
 
+-- a file of a head went through these steps
 pub file_parts : (head : Head) (file : DrawFile) → file_of head ≡ Ok file
     → (limits : List Limit) × (pairs : List Pair) × (places : List Place) × FileParts head limits pairs places file
 file_parts head file e =
@@ -349,6 +353,7 @@ file_parts head file e =
     let q = gave (places_of head.kind head) _ file p.2 in
     (l.0, p.0, q.0, record { limits_are = l.1; pairs_are = p.1; places_are = q.1; whole = cc })
 
+-- a well-formed file has its form
 pub files_have_form : FilesHaveForm
 files_have_form file formed =
     let p = parts formed.1.0 formed.0 formed.1.1 in

@@ -45,6 +45,7 @@ each_names teams i (p ∷ ps) pairs e (suc k) named pair at here =
     let all : pairs ≡ first.0 ∷ rest.0 = cc in
     each_names teams (i + 1) ps rest.0 rest.1 k named pair at (rw all at here)
 
+-- the file of a head has its pairs
 pub files_have_pairs : FilesHavePairs
 files_have_pairs head file e =
     let f = file_parts head file e in

@@ -67,6 +67,7 @@ one_first teams ps i j a b = go (cases_order i j)
     go (inr (inl less)) = absurd (b.first i a.bad.0 less a.bad.1 a.bad.2)
     go (inr (inr more)) = absurd (a.first j b.bad.0 more b.bad.1 b.bad.2)
 
+-- looking up the pairs refuses exactly the first bad one
 pub tells_first_bad_pair : TellsFirstBadPair
 tells_first_bad_pair teams ps fault = ((λ e. told (pairs_from teams 0 ps) (all_told teams 0 ps) e), λ h. back h (pairs_from teams 0 ps) refl (all_told teams 0 ps))
   where

@@ -16,16 +16,19 @@ IsNoCode codes text = (place : ℕ) → ¬ HasCodeAt codes place text
 
 -- a text of the pair is no team's code, or both are one text
 abbrev pub NamesNoTwoCodes : List (List ℕ) → HeadPair → Type 0
-NamesNoTwoCodes codes pair = IsNoCode codes pair.first ⊎ (IsNoCode codes pair.second ⊎ (pair.first ≡ pair.second))
+NamesNoTwoCodes codes pair =
+    IsNoCode codes pair.first ⊎ (IsNoCode codes pair.second ⊎ (pair.first ≡ pair.second))
 
 -- the first pair, counted from 0, that names no two codes
 pub record IsFirstWrongPair (codes : List (List ℕ)) (pairs : List HeadPair) (place : ℕ) : Type 0 where
   pub wrong : (pair : HeadPair) × (slice_get pairs place ≡ Some pair) × NamesNoTwoCodes codes pair
-  pub first : (k : ℕ) (other : HeadPair) → k < place → slice_get pairs k ≡ Some other → ¬ NamesNoTwoCodes codes other
+  pub first : (k : ℕ) (other : HeadPair)
+      → k < place → slice_get pairs k ≡ Some other → ¬ NamesNoTwoCodes codes other
 
 -- the value has pairs of texts, and this is the first wrong one
 abbrev pub HasBadPair : Data → ℕ → Type 0
-HasBadPair d place = (pairs : List HeadPair) × (pairs_in d ≡ Some pairs) × IsFirstWrongPair (codes_in d) pairs place
+HasBadPair d place =
+    (pairs : List HeadPair) × (pairs_in d ≡ Some pairs) × IsFirstWrongPair (codes_in d) pairs place
 
 -- ---- the table
 
@@ -46,5 +49,8 @@ pub record IsFirstFaultOfBytes (bytes : List ℕ) (fault : FileFault) : Type 0 w
 
 -- What bytes are refused for is their first fault, and they have a file exactly where no fault holds.
 pub record TellsFirstFaultOfBytes : Type 0 where
-  pub fault : (bytes : List ℕ) (fault : FileFault) → IsFileFault bytes fault ↔ IsFirstFaultOfBytes bytes fault
-  pub file : (bytes : List ℕ) → ((file : DrawFile) × IsFileOf bytes file) ↔ ((fault : FileFault) → ¬ HoldsOfBytes bytes fault)
+  pub fault : (bytes : List ℕ) (fault : FileFault)
+      → IsFileFault bytes fault ↔ IsFirstFaultOfBytes bytes fault
+  pub file : (bytes : List ℕ)
+      → ((file : DrawFile) × IsFileOf bytes file)
+      ↔ ((fault : FileFault) → ¬ HoldsOfBytes bytes fault)

@@ -34,15 +34,19 @@ team_named teams text = option_and_then (λ code. find code teams) (where_true (
 abbrev pub pair_at : ℕ → Option TeamId → Option TeamId → Result Pair FileFault
 pair_at place None second = Err (FileFault.BadPair place)
 pair_at place (Some a) None = Err (FileFault.BadPair place)
-pair_at place (Some a) (Some b) = if a.0 == b.0 then Err (FileFault.BadPair place) else Ok (record { first = a; second = b })
+pair_at place (Some a) (Some b) =
+    if a.0 == b.0 then Err (FileFault.BadPair place) else Ok (record { first = a; second = b })
 
 abbrev pub pair_of : List Team → ℕ → HeadPair → Result Pair FileFault
-pair_of teams place pair = pair_at place (team_named teams pair.first) (team_named teams pair.second)
+pair_of teams place pair =
+    pair_at place (team_named teams pair.first) (team_named teams pair.second)
 
 -- the pairs, counted from i
 abbrev pub pairs_from : List Team → ℕ → List HeadPair → Result (List Pair) FileFault
 pairs_from teams i [] = Ok []
-pairs_from teams i (p ∷ ps) = after (pair_of teams i p) (λ pair. after (pairs_from teams (i + 1) ps) (λ pairs. Ok (pair ∷ pairs)))
+pairs_from teams i (p ∷ ps) =
+    after (pair_of teams i p) (λ pair.
+    after (pairs_from teams (i + 1) ps) (λ pairs. Ok (pair ∷ pairs)))
 
 -- ---- the file of a head, or its first fault
 
@@ -55,7 +59,15 @@ places_of Kind.Pairing head = Ok []
 
 -- the head's file with these limits, pairs and places
 abbrev pub file_with : Head → List Limit → List Pair → List Place → DrawFile
-file_with head limits pairs places = record { kind = head.kind; groups = head.groups; pots = head.pots; teams = head.teams; limits = limits; pairs = pairs; places = places }
+file_with head limits pairs places = record {
+  kind = head.kind;
+  groups = head.groups;
+  pots = head.pots;
+  teams = head.teams;
+  limits = limits;
+  pairs = pairs;
+  places = places;
+}
 
 abbrev pub file_of : Head → Result DrawFile FileFault
 file_of head =
@@ -74,4 +86,5 @@ IsFileOf bytes file = (head : Head) × IsHead bytes head × (file_of head ≡ Ok
 
 -- The bytes are no head of a file, and this is their first fault.
 abbrev pub IsFileFault : List ℕ → FileFault → Type 0
-IsFileFault bytes fault = IsHeadFault bytes fault ⊎ ((head : Head) × IsHead bytes head × (file_of head ≡ Err fault))
+IsFileFault bytes fault =
+    IsHeadFault bytes fault ⊎ ((head : Head) × IsHead bytes head × (file_of head ≡ Err fault))

@@ -16,7 +16,8 @@ pub record HasPairsOf (head : Head) (file : DrawFile) : Type 0 where
   -- there are as many
   pub number : length file.pairs ≡ length head.pairs
   -- and at each place the file's pair names the teams with the codes of the head's pair
-  pub each : (place : ℕ) (named : HeadPair) (pair : Pair) → slice_get head.pairs place ≡ Some named → slice_get file.pairs place ≡ Some pair
+  pub each : (place : ℕ) (named : HeadPair) (pair : Pair)
+      → slice_get head.pairs place ≡ Some named → slice_get file.pairs place ≡ Some pair
       → NamesCodes (codes_of file.teams) named pair
 
 -- The file of a head has its pairs.

@@ -47,7 +47,7 @@ impl Model for DrawFile {
 }
 
 impl DrawFile {
-    /// The file of a head with what is looked up. Takes no memory.
+    /// The file of a head with what is looked up.
     pub(crate) fn of_head(
         head: Head,
         limits: Vec<Limit>,
@@ -68,7 +68,7 @@ impl DrawFile {
         }
     }
 
-    /// An equal file, or want of memory.
+    /// An equal file.
     pub fn clone_in(&self, alloc: Global) -> Result<DrawFile, NoMemory>
         ensures { IfOk result (λ file. file ≡ self.now) }
     {
@@ -89,7 +89,7 @@ impl DrawFile {
         })
     }
 
-    /// The kind of the draw. Takes no memory.
+    /// The kind of the draw.
     pub fn kind(&self) -> Kind
         ensures kind { result ≡ self.now.kind }
         ensures formed { IsWellFormed self.now }
@@ -97,42 +97,42 @@ impl DrawFile {
         self.kind
     }
 
-    /// How many groups there are; 0 in a pairing. Takes no memory.
+    /// How many groups there are; 0 in a pairing.
     pub fn groups(&self) -> u32
         ensures { result ≡ self.now.groups }
     {
         self.groups
     }
 
-    /// How many pots there are; 2 in a pairing. Takes no memory.
+    /// How many pots there are; 2 in a pairing.
     pub fn pots(&self) -> u32
         ensures { result ≡ self.now.pots }
     {
         self.pots
     }
 
-    /// The teams, in file order. Takes no memory.
+    /// The teams, in file order.
     pub fn teams(&self) -> &Teams
         ensures { result.now ≡ self.now.teams }
     {
         &self.teams
     }
 
-    /// The limits of the tags, in file order; none in a pairing. Takes no memory.
+    /// The limits of the tags, in file order; none in a pairing.
     pub fn limits(&self) -> &[Limit]
         ensures { result.now ≡ self.now.limits }
     {
         self.limits.as_slice()
     }
 
-    /// The forbidden pairs, in file order. Takes no memory.
+    /// The forbidden pairs, in file order.
     pub fn pairs(&self) -> &[Pair]
         ensures { result.now ≡ self.now.pairs }
     {
         self.pairs.as_slice()
     }
 
-    /// The fixed places, in file order; none in a pairing. Takes no memory.
+    /// The fixed places, in file order; none in a pairing.
     pub fn places(&self) -> &[Place]
         ensures { result.now ≡ self.now.places }
     {
@@ -140,7 +140,7 @@ impl DrawFile {
     }
 }
 
-/// Equal limits, or want of memory.
+/// Equal limits.
 fn clone_limits(alloc: Global, limits: &[Limit]) -> Result<Vec<Limit>, NoMemory>
     ensures { IfOk result (λ copies. copies.items ≡ limits.now) }
 {

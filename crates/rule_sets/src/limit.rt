@@ -3,8 +3,7 @@ ghost use Rattle.std.specs.Prelude.{◌≡◌, IfOk};
 use std::alloc::Global;
 use team_files::{NoMemory, Tag};
 
-/// A limit: each group takes from `lo` to `hi` teams with the tag. Both are at most 64, and `lo` is
-/// at most `hi`.
+/// A limit: each group takes from `lo` to `hi` teams with the tag. `lo` is at most `hi`.
 #[derive(Drop)]
 pub struct Limit {
     pub tag: Tag,
@@ -13,7 +12,7 @@ pub struct Limit {
 }
 
 impl Limit {
-    /// An equal limit, or want of memory.
+    /// An equal limit.
     pub fn clone_in(&self, alloc: Global) -> Result<Limit, NoMemory>
         ensures { IfOk result (λ limit. limit ≡ self.now) }
     {

@@ -13,7 +13,7 @@ use team_files::{FileFault, read_head};
 /// # Errors
 /// The first fault of the bytes, in the order of the faults' numbers: a fault of the head, as
 /// `read_head` tells it, or else `BadPair` with the place of the first forbidden pair that does not
-/// name two different teams. `NoMemory` can come in place of any of them.
+/// name two different teams.
 pub fn read_file(alloc: Global, bytes: &[u8]) -> Result<DrawFile, FileFault>
     ensures ok { IfOk result (λ file. IsFileOf bytes.now file) }
     ensures fault { IfErr result (λ f. f ≢ FileFault.NoMemory → IsFileFault bytes.now f) }

@@ -1,5 +1,5 @@
-ghost use Rattle.std.specs.Prelude.{◌≡◌, ◌≢◌, ◌≤◌, length, Ok, Err, IfOk, IfErr};
-ghost use Rattle.team_files.specs.Answers.{Gives};
+ghost use Rattle.std.specs.Prelude.{◌≡◌, ◌≤◌, length, Ok, IfOk, IfErr};
+ghost use Rattle.team_files.specs.Answers.{Gives, Tells};
 ghost use Rattle.team_files.specs.Heads.{most_pairs};
 ghost use Rattle.rule_sets.specs.Files.{file_of, team_named, pair_of, pairs_from};
 ghost use Rattle.rule_sets.specs.BadPairs.{TellsFirstBadPair};
@@ -13,8 +13,8 @@ use std::alloc::Global;
 use team_files::{Code, FileFault, Head, HeadPair, Kind, TeamId, Teams};
 
 /// The draw file of a head, with its forbidden pairs looked up. `BadPair` tells the place, counted
-/// from 0, of the first pair that does not name two different teams of the head; else the only
-/// fault is want of memory.
+/// from 0, of the first pair that does not name two different teams of the head; there is no other
+/// fault.
 pub fn rules_from(alloc: Global, head: Head) -> Result<DrawFile, FileFault>
     ensures { Gives result (file_of head) }
 {
@@ -32,18 +32,16 @@ fn pairing_file(alloc: Global, head: Head) -> Result<DrawFile, FileFault>
     Ok(DrawFile::of_head(head, Vec::new(alloc), pairs, Vec::new(alloc)))
 }
 
-/// The pairs that a head names, or the first that is none.
+/// The pairs that a head names, or the first that does not name two different teams.
 fn pairs_of(alloc: Global, teams: &Teams, pairs: &[HeadPair]) -> Result<Vec<Pair>, FileFault>
     requires few { length pairs.now ≤ most_pairs }
     ensures ok { IfOk result (λ v. pairs_from teams.now 0 pairs.now ≡ Ok v.items) }
-    ensures fault { IfErr result (λ f. f ≢ FileFault.NoMemory → pairs_from teams.now 0 pairs.now ≡ Err f) }
+    ensures fault { IfErr result (λ fault. Tells fault (pairs_from teams.now 0 pairs.now)) }
 {
     let mut found = Vec::new(alloc);
     for (place, pair) in pairs.iter().enumerate() {
         let pair = pair_of(teams, place as u32, pair)?;
-        if found.push(pair).is_err() {
-            return Err(FileFault::NoMemory);
-        }
+        found.push(pair)?;
     }
     Ok(found)
 }
@@ -69,27 +67,27 @@ fn pair_of(teams: &Teams, place: u32, pair: &HeadPair) -> Result<Pair, FileFault
     }
 }
 
-/// Each well-formed draw file has the form of one: a pairing of at most `MOST_TEAMS` teams in two pots of one
-/// size, each with one tag or two different ones and with the letter of its first-round group, and
-/// at most `MOST_PAIRS` forbidden pairs of two different teams. Does nothing.
+/// Each well-formed draw file has the form of one: a pairing of at most `MOST_TEAMS` teams in two
+/// pots of one size, each with one tag or two different ones and with the letter of its first-round
+/// group, and at most `MOST_PAIRS` forbidden pairs of two different teams.
 pub fn law_files_have_form()
     ensures { FilesHaveForm }
 {}
 
 /// `BadPair` tells the first forbidden pair that names no two teams: a text is no team's code, or
-/// both are one team's. Does nothing.
+/// both are one team's.
 pub fn law_first_bad_pair()
     ensures { TellsFirstBadPair }
 {}
 
-/// The file of a head has as many forbidden pairs, and at each place its pair names, first and second,
-/// the teams that have the codes of the head's pair. Does nothing.
+/// The file of a head has as many forbidden pairs, and at each place its pair names, first and
+/// second, the teams that have the codes of the head's pair.
 pub fn law_files_have_pairs()
     ensures { FilesHavePairs }
 {}
 
 /// What the bytes of a head are refused for is the first fault that holds of them, in the order of
-/// their numbers, and they have a draw file exactly where none holds. Does nothing.
+/// their numbers, and they have a draw file exactly where none holds.
 pub fn law_first_fault_of_bytes()
     ensures { TellsFirstFaultOfBytes }
 {}

@@ -12,7 +12,7 @@ fn file_with(alloc: Global, pairs: &str) -> Result<DrawFile, FileFault> {
     read_file(alloc, head.as_bytes())
 }
 
-/// Lists of forbidden pairs, each behind the place of the first one that is none.
+/// Lists of forbidden pairs, each behind the place of the first one that does not name two teams.
 const PAIRS: &str = r#"
 none: ["AAA","BBB"]
 none: ["BBB","AAA"],["AAA","BBB"],["AAA","BBB"]
@@ -27,8 +27,8 @@ none: ["\u0041AA","BBB"]
 2: ["AAA","BBB"],["BBB","AAA"],["CCC","DDD"]
 "#;
 
-/// The place of the first pair that is none, or `none`.
-fn told(alloc: Global, pairs: &str) -> Result<String, AllocError> {
+/// The place of the first pair that does not name two teams, or `none`.
+fn bad_place(alloc: Global, pairs: &str) -> Result<String, AllocError> {
     match file_with(alloc, pairs) {
         Ok(_) => String::from_str(alloc, "none"),
         Err(FileFault::BadPair { place }) => format!(in alloc; "{place}"),
@@ -40,7 +40,7 @@ fn told(alloc: Global, pairs: &str) -> Result<String, AllocError> {
 fn pairs_are_looked_up(rt: HostRuntime) -> Result<(), Fail> {
     for line in PAIRS.lines() {
         if let Some((wanted, pairs)) = line.split_once(": ") {
-            let said = told(rt.alloc(), pairs)?;
+            let said = bad_place(rt.alloc(), pairs)?;
             assert!(rt; said.as_str() == wanted, "{pairs}: {said}");
         }
     }

@@ -9,7 +9,7 @@ use Rattle.team_files.specs.declared.team.Team.{Team}
 use Rattle.team_files.specs.declared.team_id.TeamId.{TeamId}
 use Rattle.team_files.specs.Teams.{find_from, find, HaveDistinctCodes}
 use Rattle.team_files.specs.Heads.{same_code_from, same_code_fault}
-use Rattle.team_files.specs.Codes.{codes_of, HasCodeAt, AreDifferent, StandsBefore, IsFirstRepeat, FindsByCode, TellsSameCode}
+use Rattle.team_files.specs.Codes.{codes_of, HasCodeAt, AreDifferent, StandsBefore, IsFirstRepeat, IsOfFirstRepeat, FindsByCode, TellsSameCode}
 
 -- ---- finding a code
 
@@ -60,12 +60,14 @@ one_found code ts id different at = go (find code ts) refl
         let place : other.0 ≡ id.0 = omega (arith, t.1, same) in
         e ∙ ap (λ n. Some (record { 0 = n })) place
 
+-- the team that a code finds has it
 pub stands : (code : List ℕ) (ts : List Team) (id : TeamId) → find code ts ≡ Some id → HasCodeAt (codes_of ts) id.0 code
 stands code ts id e =
     let t = there code ts 0 id e in
     let place : t.0 ≡ id.0 = omega (arith, t.1) in
     subst (λ n. HasCodeAt (codes_of ts) n code) place t.2
 
+-- distinct codes are different, and the other way round
 pub to_different : (ts : List Team) → HaveDistinctCodes ts → AreDifferent (codes_of ts)
 to_different [] d i j code a b = cc
 to_different (t ∷ ts) d zero zero code a b = refl
@@ -80,6 +82,7 @@ from_different (t ∷ ts) d = (
   from_different ts (λ i j code a b. let e = d (suc i) (suc j) code a b in omega (arith, e)),
 )
 
+-- finding by codes, in the subject's own words
 pub finds_by_code : FindsByCode
 finds_by_code = record {
   found = λ teams code id different. ((λ e. stands code teams id e), λ at. one_found code teams id different at);
@@ -127,7 +130,7 @@ step earlier t ts fresh none k other lt at before = go (cases_order k (length ea
     go (inr (inr more)) = let n = one_more earlier t in absurd (omega (arith, n, more, lt))
 
 abbrev pub FirstRepeatTold : List Team → FileFault → Type 0
-FirstRepeatTold teams fault = (place : ℕ) × (code : List ℕ) × (fault ≡ FileFault.SameCode code) × IsFirstRepeat (codes_of teams) place code
+FirstRepeatTold teams fault = IsOfFirstRepeat (codes_of teams) fault
 
 -- the whole list, and what stands behind its first part
 told : (earlier ts whole : List Team) (fault : FileFault) → earlier ++ ts ≡ whole → NoneBelow (codes_of whole) (length earlier)
@@ -170,6 +173,7 @@ silent earlier (t ∷ ts) whole is none e =
     go None f h rest = rest (subst (λ w. NoneBelow (codes_of w) (length (earlier ++ t ∷ []))) is (step earlier t ts f (rw (← is) at none))) h
     go (Some id) f h rest = cc
 
+-- the fault names the first code that stands before itself, and no other is told
 pub first_told : (teams : List Team) (fault : FileFault) → same_code_fault teams ≡ Some fault → FirstRepeatTold teams fault
 first_told teams fault e = told [] teams teams fault refl (λ k other lt at before. omega (arith, lt)) e
 
@@ -185,6 +189,7 @@ one_first codes i j a b p q = go (cases_order i j)
     go (inr (inl less)) = absurd (q.first i a less p.has p.before)
     go (inr (inr more)) = absurd (p.first j b more q.has q.before)
 
+-- the first code that stands before itself is told
 pub told_back : (teams : List Team) (fault : FileFault) → FirstRepeatTold teams fault → same_code_fault teams ≡ Some fault
 told_back teams fault h = go (same_code_fault teams) refl
   where
@@ -213,6 +218,7 @@ none_back teams d = go (same_code_fault teams) refl
         let same = d b.0 t.0 t.1 b.2 t.3.has in
         absurd (omega (arith, same, b.1))
 
+-- where no code is told, codes are distinct, and the other way round
 pub distinct : (teams : List Team) → same_code_fault teams ≡ None → HaveDistinctCodes teams
 distinct teams e = from_different teams different
   where
@@ -235,6 +241,7 @@ distinct teams e = from_different teams different
 pub not_repeated : (teams : List Team) → HaveDistinctCodes teams → same_code_fault teams ≡ None
 not_repeated teams d = none_back teams (to_different teams d)
 
+-- the fault of a code that stands twice, in the subject's own words
 pub tells_same_code : TellsSameCode
 tells_same_code = record {
   some = λ teams fault. ((λ e. first_told teams fault e), λ h. told_back teams fault h);

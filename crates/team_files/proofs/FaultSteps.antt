@@ -141,6 +141,7 @@ fields_of_kind d kind (Some gs) (Some n) (Some os) limits places is e =
     let vals = objects_are (list_in (codes "teams") d) os e in
     rw (← is) (rw vals (behind_teams d gs os (all_team_fields kind (pots_at d) os) (wrong_in_teams kind (pots_at d) os) limits (pairs_in d) places vals (teams_told kind (pots_at d) os) refl))
 
+-- the members of a head are those of its value, or the first wrong one is told
 pub fields_told : (d : Data) → FieldsTold (head_fields (kind_at d) d) (wrong_fault (kind_at d) d) d
 fields_told d =
     let kind = kind_at d in
@@ -197,6 +198,7 @@ bad_position cs = bad_is 0 cs ∙ go (nat_lt (first_bad cs) (length cs)) (first_
     go true n = let same : 0 + n ≡ n = omega arith in rw same refl
     go false n = refl
 
+-- the teams have the codes and pots of their members, or the first one without a code is told
 pub codes_told : (fs : List TeamFields) → CodesTold (teams_from 0 fs) (option_map (λ place. FileFault.BadCode place) (position (λ c. not (is_code c)) (map (λ f. f.code) fs))) fs
 codes_told fs = rw (← bad_position (map (λ f. f.code) fs)) (codes_from 0 fs)
 
@@ -207,5 +209,6 @@ counted_from : (pot a : ℕ) (ts : List Team)
 counted_from pot a [] = refl
 counted_from pot a (t ∷ ts) = counted_from pot (a + cond (t.pot == pot) 1 0) ts
 
+-- a pot's size counted over the teams is that over their pots
 pub counted : (pot : ℕ) (ts : List Team) → pot_size pot ts ≡ count_by (λ p. p == pot) (map (λ t. t.pot) ts)
 counted pot ts = counted_from pot 0 ts

@@ -438,6 +438,7 @@ first_is_told d f h = go (head_of d) refl
         let same : order_of f ≡ order_of g = omega (arith, low, high) in
         e ∙ ap (λ x. Err x) (sym (one_at d f g (stands_all d f h.holds) (stands_all d g t.holds) same))
 
+-- the fault that is told is the first of the table
 pub tells_first_fault : TellsFirstFault
 tells_first_fault = record {
   fault = λ d f. ((λ e. told_first d f e), λ h. first_is_told d f h);

@@ -9,7 +9,7 @@ use Rattle.team_files.specs.declared.kind.Kind.{Kind}
 use Rattle.team_files.specs.declared.fields.HeadFields.{HeadFields}
 use Rattle.team_files.specs.declared.team.Team.{Team}
 use Rattle.team_files.specs.Answers.{after, unless}
-use Rattle.team_files.specs.Heads.{Head, head_with, head_of, IsReadHead, or_wrong, object_fault, kind_of, missing_fault, groups_in, pots_in, objects_in, all_team_fields, limits_in, pairs_in, places_in, head_fields, too_many_fault, most_pairs, teams_from, same_code_fault, pot_size_fault}
+use Rattle.team_files.specs.Heads.{Head, head_with, head_of, IsReadHead, or_wrong, object_fault, kind_of, missing_fault, groups_in, pots_in, objects_in, all_team_fields, limits_in, pairs_in, places_in, head_fields, too_many_fault, most_pairs, teams_from, teams_of, same_code_fault, pot_size_fault}
 
 -- a step with no fault
 pub passed : {A : Type 0} (fault : Option FileFault) (rest : Result A FileFault) (a : A) → unless fault rest ≡ Ok a → (fault ≡ None) × (rest ≡ Ok a)
@@ -33,6 +33,7 @@ pub record Parts (d : Data) (head : Head) (kind : Kind) (fields : HeadFields) (t
   pub sizes : pot_size_fault kind teams ≡ None
   pub whole : head_with kind fields teams ≡ head
 
+-- a head that was read went through these steps
 pub parts : (d : Data) (head : Head) → head_of d ≡ Ok head → (kind : Kind) × (fields : HeadFields) × (teams : List Team) × Parts d head kind fields teams
 parts d head e =
     let a = passed (object_fault d) _ head e in
@@ -73,6 +74,7 @@ kept : {A : Type 0} (value : Option A) (field : Field) (a : A) → or_wrong valu
 kept None field a e = cc
 kept (Some x) field a e = cc
 
+-- members that were read went through these steps
 pub field_parts : (kind : Kind) (d : Data) (fields : HeadFields) → head_fields kind d ≡ Ok fields → (objects : List Data) × FieldParts kind d objects fields
 field_parts kind d fields e =
     let g = gave (or_wrong (groups_in kind d) Field.Groups) _ fields e in
@@ -101,6 +103,7 @@ field_parts kind d fields e =
 pub few_pairs_of : (fields : HeadFields) → too_many_fault fields ≡ None → length fields.pairs ≤ most_pairs
 few_pairs_of fields e = grind (arith, nat_tests)
 
+-- so a head that was read has no more pairs than it may have
 pub few_pairs : (head : Head) → IsReadHead head → length head.pairs ≤ most_pairs
 few_pairs head read =
     let p = parts read.0 head read.1 in
@@ -109,7 +112,7 @@ few_pairs head read =
 -- A value that passed each step is that head.
 pub reads : (d : Data) (kind : Kind) (fields : HeadFields) (teams : List Team)
     → object_fault d ≡ None → kind_of d ≡ Ok kind → missing_fault kind d ≡ None → head_fields kind d ≡ Ok fields → too_many_fault fields ≡ None
-    → after (teams_from 0 fields.teams) (λ all. unless (same_code_fault all) (Ok all)) ≡ Ok teams → pot_size_fault kind teams ≡ None
+    → teams_of fields.teams ≡ Ok teams → pot_size_fault kind teams ≡ None
     → head_of d ≡ Ok (head_with kind fields teams)
 reads d kind fields teams object named missing are few made sizes =
     let t = gave (teams_from 0 fields.teams) _ teams made in

@@ -18,6 +18,12 @@ is_code_character b = is_capital b || is_digit b
 abbrev pub is_code : List ℕ → Bool
 is_code bytes = (length bytes == 3) && list_all is_code_character bytes
 
--- a tag is 1 to 16 characters A to Z or 0 to 9
+-- how many characters a tag may have
+abbrev pub longest_tag : ℕ
+longest_tag = 16
+
+-- a tag is at least 1 and at most `longest_tag` characters A to Z or 0 to 9
 abbrev pub is_tag : List ℕ → Bool
-is_tag bytes = (nat_le 1 (length bytes) && nat_le (length bytes) 16) && list_all is_code_character bytes
+is_tag bytes =
+    (nat_le 1 (length bytes) && nat_le (length bytes) longest_tag)
+    && list_all is_code_character bytes

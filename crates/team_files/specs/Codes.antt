@@ -16,7 +16,8 @@ HasCodeAt codes place code = slice_get codes place ≡ Some code
 
 -- no code stands at two places
 abbrev pub AreDifferent : List (List ℕ) → Type 0
-AreDifferent codes = (i j : ℕ) (code : List ℕ) → HasCodeAt codes i code → HasCodeAt codes j code → i ≡ j
+AreDifferent codes = (i j : ℕ) (code : List ℕ)
+    → HasCodeAt codes i code → HasCodeAt codes j code → i ≡ j
 
 -- the code stands at a place before this one
 abbrev pub StandsBefore : List (List ℕ) → ℕ → List ℕ → Type 0
@@ -26,21 +27,30 @@ StandsBefore codes place code = (i : ℕ) × (i < place) × HasCodeAt codes i co
 pub record IsFirstRepeat (codes : List (List ℕ)) (place : ℕ) (code : List ℕ) : Type 0 where
   pub has : HasCodeAt codes place code
   pub before : StandsBefore codes place code
-  pub first : (k : ℕ) (other : List ℕ) → k < place → HasCodeAt codes k other → ¬ StandsBefore codes k other
+  pub first : (k : ℕ) (other : List ℕ)
+      → k < place → HasCodeAt codes k other → ¬ StandsBefore codes k other
 
 -- What finding a team by its code comes to.
 pub record FindsByCode : Type 0 where
   -- where codes are different, it finds exactly the team that has the code
-  pub found : (teams : List Team) (code : List ℕ) (id : TeamId) → AreDifferent (codes_of teams) → (find code teams ≡ Some id) ↔ HasCodeAt (codes_of teams) id.0 code
+  pub found : (teams : List Team) (code : List ℕ) (id : TeamId) → AreDifferent (codes_of teams)
+      → (find code teams ≡ Some id) ↔ HasCodeAt (codes_of teams) id.0 code
   -- and none exactly where no team has it
-  pub missing : (teams : List Team) (code : List ℕ) → (find code teams ≡ None) ↔ ((place : ℕ) → ¬ HasCodeAt (codes_of teams) place code)
+  pub missing : (teams : List Team) (code : List ℕ)
+      → (find code teams ≡ None) ↔ ((place : ℕ) → ¬ HasCodeAt (codes_of teams) place code)
   -- codes are distinct where no two places have one code
   pub distinct : (teams : List Team) → HaveDistinctCodes teams ↔ AreDifferent (codes_of teams)
+
+-- The fault is of the code at the first place whose code stands before it.
+abbrev pub IsOfFirstRepeat : List (List ℕ) → FileFault → Type 0
+IsOfFirstRepeat codes fault =
+    (place : ℕ) × (code : List ℕ)
+    × (fault ≡ FileFault.SameCode code) × IsFirstRepeat codes place code
 
 -- What the fault of a code that stands twice comes to.
 pub record TellsSameCode : Type 0 where
   -- it names the code at the first place whose code stands before it
   pub some : (teams : List Team) (fault : FileFault)
-      → (same_code_fault teams ≡ Some fault) ↔ ((place : ℕ) × (code : List ℕ) × (fault ≡ FileFault.SameCode code) × IsFirstRepeat (codes_of teams) place code)
+      → (same_code_fault teams ≡ Some fault) ↔ IsOfFirstRepeat (codes_of teams) fault
   -- and there is none exactly where codes are different
   pub none : (teams : List Team) → (same_code_fault teams ≡ None) ↔ AreDifferent (codes_of teams)

@@ -85,7 +85,8 @@ wrong_in_team kind pots d =
 
 abbrev pub wrong_in_teams : Kind → ℕ → List Data → Option FileFault
 wrong_in_teams kind pots [] = None
-wrong_in_teams kind pots (d ∷ ds) = option_or (wrong_in_team kind pots d) (wrong_in_teams kind pots ds)
+wrong_in_teams kind pots (d ∷ ds) =
+    option_or (wrong_in_team kind pots d) (wrong_in_teams kind pots ds)
 
 abbrev pub wrong_fault : Kind → Data → Option FileFault
 wrong_fault kind d =
@@ -108,9 +109,11 @@ too_many_of teams pairs =
     if nat_lt most_pairs pairs then Some (FileFault.TooMany Field.Pairs pairs) else None)
 
 abbrev pub HasTooMany : Data → Field → ℕ → Type 0
-HasTooMany d what number = too_many_of (length (team_values d)) (length (pair_values d)) ≡ Some (FileFault.TooMany what number)
+HasTooMany d what number =
+    too_many_of (length (team_values d)) (length (pair_values d))
+    ≡ Some (FileFault.TooMany what number)
 
--- ---- 7 BadCode: the first team whose code is none
+-- ---- 7 BadCode: the first team whose code is not a code
 
 abbrev pub HasBadCode : Data → ℕ → Type 0
 HasBadCode d place = position (λ code. not (is_code code)) (codes_in d) ≡ Some place
@@ -147,7 +150,7 @@ HoldsWrong d Field.Kind = HasWrongKind d
 HoldsWrong d member = HasWrongField d member
 
 -- When a fault holds of a value, whatever other faults hold of it. NotJson is told of bytes that are no value, BadPair of
--- a head's pairs, UnknownTag and BadPlace of other kinds, and want of memory of no value.
+-- a head's pairs, UnknownTag and BadPlace of other kinds, and NoMemory of no value.
 abbrev pub Holds : Data → FileFault → Type 0
 Holds d FileFault.NotJson = ⊥
 Holds d FileFault.NotObject = IsNotObject d
@@ -193,4 +196,5 @@ pub record IsFirstFault (d : Data) (fault : FileFault) : Type 0 where
 -- Reading a value as a head tells its first fault, and gives a head exactly where no fault holds.
 pub record TellsFirstFault : Type 0 where
   pub fault : (d : Data) (fault : FileFault) → (head_of d ≡ Err fault) ↔ IsFirstFault d fault
-  pub head : (d : Data) → ((head : Head) × (head_of d ≡ Ok head)) ↔ ((fault : FileFault) → ¬ Holds d fault)
+  pub head : (d : Data)
+      → ((head : Head) × (head_of d ≡ Ok head)) ↔ ((fault : FileFault) → ¬ Holds d fault)

@@ -30,6 +30,19 @@ pub record Head : Type 0 where
   pub pairs : List HeadPair
   pub places : List HeadPlace
 
+-- the head with these members
+abbrev pub head_from : Kind → ℕ → ℕ
+    → List Team → List HeadLimit → List HeadPair → List HeadPlace → Head
+head_from kind groups pots teams limits pairs places = record {
+  kind = kind;
+  groups = groups;
+  pots = pots;
+  teams = teams;
+  limits = limits;
+  pairs = pairs;
+  places = places;
+}
+
 -- ---- 1 NotJson
 
 -- The bytes are read as one JSON value.
@@ -41,6 +54,10 @@ pub record IsJson (bytes : List ℕ) (d : Data) : Type 0 where
 abbrev pub IsNotJson : List ℕ → Type 0
 IsNotJson bytes = IsUtf8 bytes → read bytes ≡ None
 
+-- The fault is NotJson, and the bytes are not read as one JSON value.
+abbrev pub IsJsonFault : List ℕ → FileFault → Type 0
+IsJsonFault bytes fault = (fault ≡ FileFault.NotJson) × IsNotJson bytes
+
 -- ---- 2 NotObject
 
 abbrev pub object_fault : Data → Option FileFault
@@ -50,14 +67,17 @@ object_fault d = if is_object d then None else Some FileFault.NotObject
 
 -- what is wrong with a name that no kind has
 abbrev pub fault_of_name : List ℕ → FileFault
-fault_of_name text = if is_not_built text then FileFault.KindNotBuilt else FileFault.KindUnknown text
+fault_of_name text =
+    if is_not_built text then FileFault.KindNotBuilt else FileFault.KindUnknown text
 
 abbrev pub kind_of_text : Option (List ℕ) → Result Kind FileFault
 kind_of_text None = Err (FileFault.FieldWrong Field.Kind)
 kind_of_text (Some text) = ok_or (kind_named text) (fault_of_name text)
 
 abbrev pub kind_of : Data → Result Kind FileFault
-kind_of d = if lacks (codes "kind") d then Err (FileFault.FieldMissing Field.Kind) else kind_of_text (text_in (codes "kind") d)
+kind_of d =
+    if lacks (codes "kind") d then Err (FileFault.FieldMissing Field.Kind)
+    else kind_of_text (text_in (codes "kind") d)
 
 -- ---- 4 FieldMissing: the first needed member that is absent
 
@@ -89,7 +109,8 @@ missing_in_list kind None = None
 missing_in_list kind (Some ds) = missing_in_teams kind ds
 
 abbrev pub missing_fault : Kind → Data → Option FileFault
-missing_fault kind d = option_or (missing_in_head kind d) (missing_in_list kind (list_in (codes "teams") d))
+missing_fault kind d =
+    option_or (missing_in_head kind d) (missing_in_list kind (list_in (codes "teams") d))
 
 -- ---- 5 FieldWrong: the fields, or the first member of another form or range
 
@@ -98,15 +119,19 @@ or_wrong value field = ok_or value (FileFault.FieldWrong field)
 
 -- a name is a text or absent
 abbrev pub name_in : Data → Option (Option (List ℕ))
-name_in d = if lacks (codes "name") d then Some None else option_map (λ text. Some text) (text_in (codes "name") d)
+name_in d =
+    if lacks (codes "name") d then Some None
+    else option_map (λ text. Some text) (text_in (codes "name") d)
 
 -- the pot of a team, one of so many, which count from 1
 abbrev pub pot_in : ℕ → Data → Option ℕ
-pot_in pots d = option_and_then (λ n. where_true (nat_le 1 n && nat_le n pots) n) (number_in (codes "pot") d)
+pot_in pots d =
+    option_and_then (λ n. where_true (nat_le 1 n && nat_le n pots) n) (number_in (codes "pot") d)
 
 -- the letter of a team's first-round group, where teams of the kind have one
 abbrev pub letter_in : Kind → Data → Option (Option ℕ)
-letter_in Kind.Pairing d = option_map (λ letter. Some letter) (option_and_then letter_of (text_in (codes "group") d))
+letter_in Kind.Pairing d =
+    option_map (λ letter. Some letter) (option_and_then letter_of (text_in (codes "group") d))
 
 abbrev pub team_fields : Kind → ℕ → Data → Result TeamFields FileFault
 team_fields kind pots d =
@@ -119,7 +144,9 @@ team_fields kind pots d =
 
 abbrev pub all_team_fields : Kind → ℕ → List Data → Result (List TeamFields) FileFault
 all_team_fields kind pots [] = Ok []
-all_team_fields kind pots (d ∷ ds) = after (team_fields kind pots d) (λ team. after (all_team_fields kind pots ds) (λ teams. Ok (team ∷ teams)))
+all_team_fields kind pots (d ∷ ds) =
+    after (team_fields kind pots d) (λ team.
+    after (all_team_fields kind pots ds) (λ teams. Ok (team ∷ teams)))
 
 -- a list of objects
 abbrev pub objects_in : List ℕ → Data → Option (List Data)
@@ -129,16 +156,23 @@ objects_in name d = option_and_then (λ ds. where_true (list_all is_object ds) d
 abbrev pub pair_of_texts : List Data → Option HeadPair
 pair_of_texts [] = None
 pair_of_texts (a ∷ []) = None
-pair_of_texts (a ∷ b ∷ []) = option_and_then (λ first. option_map (λ second. record { first = first; second = second }) (as_str b)) (as_str a)
+pair_of_texts (a ∷ b ∷ []) =
+    option_and_then (λ first.
+    option_map (λ second. record { first = first; second = second }) (as_str b)) (as_str a)
 pair_of_texts (a ∷ b ∷ c ∷ ds) = None
 
 abbrev pub pairs_of_texts : List Data → Option (List HeadPair)
 pairs_of_texts [] = Some []
-pairs_of_texts (d ∷ ds) = option_and_then (λ pair. option_map (λ pairs. pair ∷ pairs) (pairs_of_texts ds)) (option_and_then pair_of_texts (list_of d))
+pairs_of_texts (d ∷ ds) =
+    option_and_then (λ pair.
+    option_map (λ pairs. pair ∷ pairs) (pairs_of_texts ds))
+    (option_and_then pair_of_texts (list_of d))
 
 -- an absent list is empty
 abbrev pub pairs_in : Data → Option (List HeadPair)
-pairs_in d = if lacks (codes "pairs") d then Some [] else option_and_then pairs_of_texts (list_in (codes "pairs") d)
+pairs_in d =
+    if lacks (codes "pairs") d then Some []
+    else option_and_then pairs_of_texts (list_in (codes "pairs") d)
 
 -- How many groups and pots there are. A pairing has no groups, and two pots: the winners and the runners-up.
 abbrev pub groups_in : Kind → Data → Option ℕ
@@ -163,7 +197,14 @@ head_fields kind d =
     after (limits_in kind d) (λ limits.
     after (or_wrong (pairs_in d) Field.Pairs) (λ pairs.
     after (places_in kind d) (λ places.
-    Ok (record { groups = groups; pots = pots; teams = teams; limits = limits; pairs = pairs; places = places }))))))))
+    Ok (record {
+      groups = groups;
+      pots = pots;
+      teams = teams;
+      limits = limits;
+      pairs = pairs;
+      places = places;
+    }))))))))
 
 -- ---- 6 TooMany: the first list that is longer than its limit
 
@@ -175,10 +216,14 @@ most_pairs = 64
 
 abbrev pub too_many_fault : HeadFields → Option FileFault
 too_many_fault fields =
-    if nat_lt most_teams (length fields.teams) then Some (FileFault.TooMany Field.Teams (length fields.teams)) else (
-    if nat_lt most_pairs (length fields.pairs) then Some (FileFault.TooMany Field.Pairs (length fields.pairs)) else None)
+    if nat_lt most_teams (length fields.teams)
+    then Some (FileFault.TooMany Field.Teams (length fields.teams))
+    else (
+    if nat_lt most_pairs (length fields.pairs)
+    then Some (FileFault.TooMany Field.Pairs (length fields.pairs))
+    else None)
 
--- ---- 7 BadCode: the teams, or the first one whose code is none, counted from i
+-- ---- 7 BadCode: the teams, or the first one whose code is not a code, counted from i
 
 -- where there is no name, the code stands for it
 abbrev pub name_of : List ℕ → Option (List ℕ) → List ℕ
@@ -188,21 +233,34 @@ name_of code (Some name) = name
 abbrev pub team_of : ℕ → TeamFields → Result Team FileFault
 team_of place fields =
     if is_code fields.code
-    then Ok (record { code = fields.code; name = name_of fields.code fields.name; pot = fields.pot; tags = fields.tags; group_letter = fields.group_letter })
+    then Ok (record {
+      code = fields.code;
+      name = name_of fields.code fields.name;
+      pot = fields.pot;
+      tags = fields.tags;
+      group_letter = fields.group_letter;
+    })
     else Err (FileFault.BadCode place)
 
 abbrev pub teams_from : ℕ → List TeamFields → Result (List Team) FileFault
 teams_from i [] = Ok []
-teams_from i (f ∷ fs) = after (team_of i f) (λ team. after (teams_from (i + 1) fs) (λ teams. Ok (team ∷ teams)))
+teams_from i (f ∷ fs) =
+    after (team_of i f) (λ team. after (teams_from (i + 1) fs) (λ teams. Ok (team ∷ teams)))
 
 -- ---- 8 SameCode: the first team whose code an earlier team has
 
 abbrev pub same_code_from : List Team → List Team → Option FileFault
 same_code_from earlier [] = None
-same_code_from earlier (t ∷ ts) = if is_some (find_from t.code earlier 0) then Some (FileFault.SameCode t.code) else same_code_from (earlier ++ t ∷ []) ts
+same_code_from earlier (t ∷ ts) =
+    if is_some (find_from t.code earlier 0) then Some (FileFault.SameCode t.code)
+    else same_code_from (earlier ++ t ∷ []) ts
 
 abbrev pub same_code_fault : List Team → Option FileFault
 same_code_fault teams = same_code_from [] teams
+
+-- the teams with their codes, or the first fault of these
+abbrev pub teams_of : List TeamFields → Result (List Team) FileFault
+teams_of all = after (teams_from 0 all) (λ teams. unless (same_code_fault teams) (Ok teams))
 
 -- ---- 9 PotSize
 
@@ -213,13 +271,16 @@ pot_size pot teams = count_by (λ t. t.pot == pot) teams
 abbrev pub pot_size_fault : Kind → List Team → Option FileFault
 pot_size_fault Kind.Pairing teams =
     if pot_size 1 teams == 0 then Some (FileFault.PotSize 1 0) else (
-    if pot_size 2 teams == pot_size 1 teams then None else Some (FileFault.PotSize 2 (pot_size 2 teams)))
+    if pot_size 2 teams == pot_size 1 teams
+    then None
+    else Some (FileFault.PotSize 2 (pot_size 2 teams)))
 
 -- ---- the head, or the first of its faults in the order of their numbers
 
 -- the head with these members, and these teams made of them
 abbrev pub head_with : Kind → HeadFields → List Team → Head
-head_with kind fields teams = record { kind = kind; groups = fields.groups; pots = fields.pots; teams = teams; limits = fields.limits; pairs = fields.pairs; places = fields.places }
+head_with kind fields teams =
+    head_from kind fields.groups fields.pots teams fields.limits fields.pairs fields.places
 
 abbrev pub head_of : Data → Result Head FileFault
 head_of d =
@@ -243,4 +304,5 @@ IsHead bytes head = (d : Data) × IsJson bytes d × (head_of d ≡ Ok head)
 
 -- The bytes are no head, and this is their first fault.
 abbrev pub IsHeadFault : List ℕ → FileFault → Type 0
-IsHeadFault bytes fault = ((fault ≡ FileFault.NotJson) × IsNotJson bytes) ⊎ ((d : Data) × IsJson bytes d × (head_of d ≡ Err fault))
+IsHeadFault bytes fault =
+    IsJsonFault bytes fault ⊎ ((d : Data) × IsJson bytes d × (head_of d ≡ Err fault))

@@ -50,7 +50,9 @@ tag_of d = option_and_then (λ text. where_true (is_tag text) text) (as_str d)
 abbrev pub tags_of : List Data → Option (List (List ℕ))
 tags_of [] = None
 tags_of (a ∷ []) = option_map (λ s. s ∷ []) (tag_of a)
-tags_of (a ∷ b ∷ []) = option_and_then (λ s. option_and_then (λ t. where_true (not (bytes_eq s t)) (s ∷ t ∷ [])) (tag_of b)) (tag_of a)
+tags_of (a ∷ b ∷ []) =
+    option_and_then (λ s.
+    option_and_then (λ t. where_true (not (bytes_eq s t)) (s ∷ t ∷ [])) (tag_of b)) (tag_of a)
 tags_of (a ∷ b ∷ c ∷ ds) = None
 
 abbrev pub tags_in : List ℕ → Data → Option (List (List ℕ))

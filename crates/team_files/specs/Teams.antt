@@ -6,7 +6,8 @@ use Rattle.team_files.specs.declared.team_id.TeamId.{TeamId}
 -- the first team with the code, where teams are counted from i
 abbrev pub find_from : List ℕ → List Team → ℕ → Option TeamId
 find_from code [] i = None
-find_from code (t ∷ ts) i = if bytes_eq t.code code then Some (record { 0 = i }) else find_from code ts (i + 1)
+find_from code (t ∷ ts) i =
+    if bytes_eq t.code code then Some (record { 0 = i }) else find_from code ts (i + 1)
 
 -- the team with the code
 abbrev pub find : List ℕ → List Team → Option TeamId

@@ -1,9 +1,9 @@
 //! Limits, codes and pot sizes of the members whose forms are right.
 
-ghost use Rattle.std.specs.Prelude.{◌≡◌, ◌≤◌, ◌≢◌, length, IfOk, IfErr, OnOk};
+ghost use Rattle.std.specs.Prelude.{◌≡◌, ◌≤◌, length, IfOk, IfErr, OnOk};
 ghost use Rattle.std.specs.Result.{result_err};
-ghost use Rattle.team_files.specs.Answers.{Gives, after, unless};
-ghost use Rattle.team_files.specs.Heads.{too_many_fault, most_teams, team_of, teams_from, same_code_fault, pot_size, pot_size_fault};
+ghost use Rattle.team_files.specs.Answers.{Gives, Tells};
+ghost use Rattle.team_files.specs.Heads.{too_many_fault, most_teams, team_of, teams_from, teams_of, pot_size, pot_size_fault};
 
 use crate::code::Code;
 use crate::fault::{Field, FileFault};
@@ -41,11 +41,11 @@ pub(crate) fn check_lengths(fields: &HeadFields) -> Result<(), FileFault>
     Ok(())
 }
 
-/// The teams, or the first one whose code is none, or else the first one whose code an earlier team
-/// has.
+/// The teams, or the first one whose code is not a code, or else the first one whose code an earlier
+/// team has.
 pub(crate) fn teams_of(alloc: Global, all: AllTeamFields) -> Result<Teams, FileFault>
     requires { length all ≤ most_teams }
-    ensures { Gives result (after (teams_from 0 all) (λ teams. unless (same_code_fault teams) (Ok teams))) }
+    ensures { Gives result (teams_of all) }
 {
     let teams = teams_from(alloc, all.into_vec())?;
     Teams::new(alloc, teams)
@@ -54,7 +54,7 @@ pub(crate) fn teams_of(alloc: Global, all: AllTeamFields) -> Result<Teams, FileF
 fn teams_from(alloc: Global, all: Vec<TeamFields>) -> Result<Vec<Team>, FileFault>
     requires { length all.items ≤ most_teams }
     ensures ok { IfOk result (λ teams. teams_from 0 all.items ≡ Ok teams.items) }
-    ensures fault { IfErr result (λ fault. fault ≢ FileFault.NoMemory → teams_from 0 all.items ≡ Err fault) }
+    ensures fault { IfErr result (λ fault. Tells fault (teams_from 0 all.items)) }
     ensures few { IfOk result (λ teams. length teams.items ≤ most_teams) }
 {
     let mut teams = Vec::new(alloc);
@@ -65,7 +65,7 @@ fn teams_from(alloc: Global, all: Vec<TeamFields>) -> Result<Vec<Team>, FileFaul
     Ok(teams)
 }
 
-/// The team, or that the one at this place has no code.
+/// The team, or the fault that the one at this place has no code.
 fn team_of(place: u32, fields: TeamFields) -> Result<Team, FileFault>
     ensures { result ≡ team_of place fields }
 {

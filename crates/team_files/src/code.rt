@@ -25,9 +25,11 @@ impl Model for Code {
 
 impl Code {
     /// The code that the bytes are. `None` exactly where they are not three characters A to Z or 0
-    /// to 9. Takes no memory.
+    /// to 9.
     pub fn read(bytes: &[u8]) -> Option<Code>
-        ensures { MatchOption result (is_code bytes.now ≡ false) (λ c. (c ≡ bytes.now) × (is_code bytes.now ≡ true)) }
+        ensures { MatchOption result
+            (is_code bytes.now ≡ false)
+            (λ code. (code ≡ bytes.now) × (is_code bytes.now ≡ true)) }
     {
         let [first, second, third] = bytes else {
             return None;
@@ -63,12 +65,7 @@ fn is_code(bytes: &[u8]) -> bool
 pub(crate) fn are_code_characters(bytes: &[u8]) -> bool
     ensures { result ≡ list_all is_code_character bytes.now }
 {
-    for byte in bytes {
-        if !is_code_character(*byte) {
-            return false;
-        }
-    }
-    true
+    bytes.iter().all(|byte| is_code_character(*byte))
 }
 
 fn is_code_character(byte: u8) -> bool

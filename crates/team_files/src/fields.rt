@@ -33,7 +33,7 @@ impl Model for AllTeamFields {
 }
 
 impl AllTeamFields {
-    /// The members of a vector of teams. Takes no memory.
+    /// The members of a vector of teams.
     pub(crate) fn new(teams: Vec<TeamFields>) -> AllTeamFields
         ensures { result ≡ teams.items }
     {

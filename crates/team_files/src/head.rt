@@ -1,5 +1,5 @@
 ghost use Rattle.std.specs.Prelude.{◌≡◌, ◌≤◌, length};
-ghost use Rattle.team_files.specs.Heads.{IsReadHead, most_pairs};
+ghost use Rattle.team_files.specs.Heads.{IsReadHead, head_from, most_pairs};
 
 use crate::head_limit::{HeadLimit, HeadLimits};
 use crate::head_pair::{HeadPair, HeadPairs};
@@ -37,19 +37,12 @@ impl Model for Head {
       places = h.places;
     } };
 
-    ghost invariant = { λ h. spec.IsReadHead (record {
-      kind = h.kind;
-      groups = h.groups;
-      pots = h.pots;
-      teams = h.teams;
-      limits = h.limits;
-      pairs = h.pairs;
-      places = h.places;
-    }) };
+    ghost invariant = { λ h.
+        spec.IsReadHead (spec.head_from h.kind h.groups h.pots h.teams h.limits h.pairs h.places) };
 }
 
 impl Head {
-    /// The head with these members. Takes no memory.
+    /// The head with these members.
     pub(crate) fn new(
         kind: Kind,
         groups: u32,
@@ -59,8 +52,8 @@ impl Head {
         pairs: HeadPairs,
         places: HeadPlaces,
     ) -> Head
-        requires { IsReadHead (record { kind = kind; groups = groups; pots = pots; teams = teams; limits = limits; pairs = pairs; places = places }) }
-        ensures { result ≡ record { kind = kind; groups = groups; pots = pots; teams = teams; limits = limits; pairs = pairs; places = places } }
+        requires { IsReadHead (head_from kind groups pots teams limits pairs places) }
+        ensures { result ≡ head_from kind groups pots teams limits pairs places }
     {
         Head {
             kind,
@@ -73,7 +66,7 @@ impl Head {
         }
     }
 
-    /// The kind of the draw. Takes no memory.
+    /// The kind of the draw.
     pub fn kind(&self) -> Kind
         ensures kind { result ≡ self.now.kind }
         ensures read { IsReadHead self.now }
@@ -81,36 +74,35 @@ impl Head {
         self.kind
     }
 
-    /// How many groups there are; 0 in a pairing. Takes no memory.
+    /// How many groups there are; 0 in a pairing.
     pub fn groups(&self) -> u32
         ensures { result ≡ self.now.groups }
     {
         self.groups
     }
 
-    /// How many pots there are; 2 in a pairing. Takes no memory.
+    /// How many pots there are; 2 in a pairing.
     pub fn pots(&self) -> u32
         ensures { result ≡ self.now.pots }
     {
         self.pots
     }
 
-    /// The teams, in file order. Takes no memory.
+    /// The teams, in file order.
     pub fn teams(&self) -> &Teams
         ensures { result.now ≡ self.now.teams }
     {
         &self.teams
     }
 
-    /// The limits of the tags, in file order; none in a pairing. Takes no memory.
+    /// The limits of the tags, in file order; none in a pairing.
     pub fn limits(&self) -> &[HeadLimit]
         ensures { result.now ≡ self.now.limits }
     {
         self.limits.as_slice()
     }
 
-    /// The forbidden pairs as the head names them, at most `MOST_PAIRS`, in file order. Takes no
-    /// memory.
+    /// The forbidden pairs as the head names them, at most `MOST_PAIRS`, in file order.
     pub fn pairs(&self) -> &[HeadPair]
         ensures pairs { result.now ≡ self.now.pairs }
         ensures few { length result.now ≤ most_pairs }
@@ -118,14 +110,14 @@ impl Head {
         self.pairs.as_slice()
     }
 
-    /// The fixed places as the head names them, in file order; none in a pairing. Takes no memory.
+    /// The fixed places as the head names them, in file order; none in a pairing.
     pub fn places(&self) -> &[HeadPlace]
         ensures { result.now ≡ self.now.places }
     {
         self.places.as_slice()
     }
 
-    /// The teams, taken out of the head. Takes no memory.
+    /// The teams, taken out of the head.
     pub fn into_teams(self) -> Teams
         ensures { result ≡ self.teams }
     {

@@ -3,8 +3,8 @@ ghost use Rattle.std.specs.Prelude.{◌≡◌};
 use crate::tag::Tag;
 use std::marker::Model;
 
-/// A limit as a head names it: each group takes from `lo` to `hi` teams with the tag. Both are at
-/// most 64, and `lo` is at most `hi`.
+/// A limit as a head names it: each group takes from `lo` to `hi` teams with the tag. `lo` is at most
+/// `hi`.
 #[derive(Drop)]
 pub struct HeadLimit {
     pub tag: Tag,
@@ -28,14 +28,14 @@ impl Model for HeadLimits {
 }
 
 impl HeadLimits {
-    /// The limits of a vector. Takes no memory.
+    /// The limits of a vector.
     pub fn new(limits: Vec<HeadLimit>) -> HeadLimits
         ensures { result ≡ limits.items }
     {
         HeadLimits { limits }
     }
 
-    /// The limits in order. Takes no memory.
+    /// The limits in order.
     pub fn as_slice(&self) -> &[HeadLimit]
         ensures { result.now ≡ self.now }
     {

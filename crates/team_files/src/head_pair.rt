@@ -26,7 +26,7 @@ impl Model for HeadPairs {
 }
 
 impl HeadPairs {
-    /// The pairs of a vector. Takes no memory.
+    /// The pairs of a vector.
     pub fn new(pairs: Vec<HeadPair>) -> HeadPairs
         ensures { result ≡ pairs.items }
     {

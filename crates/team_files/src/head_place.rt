@@ -28,14 +28,14 @@ impl Model for HeadPlaces {
 }
 
 impl HeadPlaces {
-    /// The places of a vector. Takes no memory.
+    /// The places of a vector.
     pub fn new(places: Vec<HeadPlace>) -> HeadPlaces
         ensures { result ≡ places.items }
     {
         HeadPlaces { places }
     }
 
-    /// The places in order. Takes no memory.
+    /// The places in order.
     pub fn as_slice(&self) -> &[HeadPlace]
         ensures { result.now ≡ self.now }
     {

@@ -1,4 +1,7 @@
 //! Heads of draw files: teams, codes and tags, or the first fault that a head has.
+//!
+//! Said once for all functions: one takes memory only where it is passed an allocator, and where
+//! memory runs out it answers `NoMemory` in place of anything else. The laws do nothing.
 #![tactic(auto)]
 
 mod checks;

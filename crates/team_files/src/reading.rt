@@ -4,7 +4,7 @@ ghost use Rattle.std.specs.Prelude.{◌≡◌, ◌≢◌, Some, IfOk, IfErr};
 ghost use Rattle.std.specs.Result.{result_err};
 ghost use Rattle.serde_json.specs.View.{view};
 ghost use Rattle.team_files.specs.Answers.{Gives};
-ghost use Rattle.team_files.specs.Heads.{IsHead, IsHeadFault, IsJson, IsNotJson, object_fault, kind_of, kind_of_text, head_of};
+ghost use Rattle.team_files.specs.Heads.{IsHead, IsHeadFault, IsJson, IsJsonFault, object_fault, kind_of, kind_of_text, head_of};
 
 use crate::checks::{check_lengths, check_pots, teams_of};
 use crate::fault::{Field, FileFault};
@@ -19,7 +19,7 @@ use serde_json::Value;
 use std::alloc::Global;
 
 /// Reads the head of a draw file, which is one JSON object. Members that a pairing does not have are
-/// passed over, in the teams too, and of repeated members the last counts.
+/// ignored, in the teams too, and of repeated members the last counts.
 ///
 /// # Errors
 /// The head's first fault. `NotJson` and `NotObject` come first, then what is wrong with `kind`:
@@ -27,8 +27,7 @@ use std::alloc::Global;
 /// Then, each over the whole head: the first needed member that is absent, `FieldMissing`; the
 /// first member of another form or range, `FieldWrong`; more than `MOST_TEAMS` teams or more than
 /// `MOST_PAIRS` pairs, `TooMany`; the first team without a code, `BadCode`; the first team with an
-/// earlier one's code, `SameCode`; pot 1 empty or pot 2 not of its size, `PotSize`. `NoMemory` can
-/// come in place of any of them.
+/// earlier one's code, `SameCode`; pot 1 empty or pot 2 not of its size, `PotSize`.
 pub fn read_head(alloc: Global, bytes: &[u8]) -> Result<Head, FileFault>
     ensures ok { IfOk result (λ head. IsHead bytes.now head) }
     ensures fault { IfErr result (λ f. f ≢ FileFault.NoMemory → IsHeadFault bytes.now f) }
@@ -40,7 +39,7 @@ pub fn read_head(alloc: Global, bytes: &[u8]) -> Result<Head, FileFault>
 /// The value that the bytes are.
 fn value_of(alloc: Global, bytes: &[u8]) -> Result<Value, FileFault>
     ensures ok { IfOk result (λ value. IsJson bytes.now (view value)) }
-    ensures fault { IfErr result (λ f. f ≢ FileFault.NoMemory → (f ≡ FileFault.NotJson) × IsNotJson bytes.now) }
+    ensures fault { IfErr result (λ f. f ≢ FileFault.NoMemory → IsJsonFault bytes.now f) }
 {
     match Value::from_slice(alloc, bytes) {
         Ok(value) => Ok(value),
@@ -96,7 +95,7 @@ fn kind_of(alloc: Global, head: &Value) -> Result<Kind, FileFault>
 fn kind_of_name(alloc: Global, name: &str) -> Result<Kind, FileFault>
     ensures { Gives result (kind_of_text (Some name.now)) }
 {
-    if let Some(kind) = Kind::named(name) {
+    if let Some(kind) = Kind::with_name(name) {
         return Ok(kind);
     }
     if name == "group" || name == "league" {

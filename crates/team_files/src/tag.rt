@@ -5,7 +5,11 @@ use crate::code::are_code_characters;
 use std::alloc::{AllocError, Global};
 use std::marker::Model;
 
-/// A tag: a text of 1 to 16 characters A to Z or 0 to 9. Contracts see its bytes.
+/// How many characters a tag may have.
+const LONGEST_TAG: usize = 16;
+
+/// A tag: a text of at least one and at most `LONGEST_TAG` characters A to Z or 0 to 9. Contracts see
+/// its bytes.
 #[derive(Drop)]
 pub struct Tag {
     text: String,
@@ -23,7 +27,7 @@ impl Model for Tag {
 }
 
 impl Tag {
-    /// The tag of a string. Takes no memory.
+    /// The tag of a string.
     pub fn new(text: String) -> Tag
         requires { is_tag (string_bytes text) ≡ true }
         ensures { result ≡ string_bytes text }
@@ -31,7 +35,7 @@ impl Tag {
         Tag { text }
     }
 
-    /// A tag of its own, or want of memory.
+    /// A tag of its own.
     pub(crate) fn copy(alloc: Global, text: &str) -> Result<Tag, AllocError>
         requires { is_tag text.now ≡ true }
         ensures { IfOk result (λ tag. tag ≡ text.now) }
@@ -39,14 +43,14 @@ impl Tag {
         Ok(Tag::new(String::from_str(alloc, text)?))
     }
 
-    /// An equal tag, or want of memory.
+    /// An equal tag.
     pub fn clone_in(&self, alloc: Global) -> Result<Tag, AllocError>
         ensures { IfOk result (λ tag. tag ≡ self.now) }
     {
         Tag::copy(alloc, self.text.as_str())
     }
 
-    /// Its bytes. Takes no memory.
+    /// Its bytes.
     pub fn bytes(&self) -> &[u8]
         ensures bytes { result.now ≡ self.now }
         ensures form { is_tag result.now ≡ true }
@@ -70,14 +74,14 @@ impl Model for Tags {
 }
 
 impl Tags {
-    /// The tags of a vector. Takes no memory.
+    /// The tags of a vector.
     pub fn new(tags: Vec<Tag>) -> Tags
         ensures { result ≡ tags.items }
     {
         Tags { tags }
     }
 
-    /// Equal tags, or want of memory.
+    /// Equal tags.
     pub fn clone_in(&self, alloc: Global) -> Result<Tags, AllocError>
         ensures { IfOk result (λ tags. tags ≡ self.now) }
     {
@@ -89,7 +93,7 @@ impl Tags {
         Ok(Tags::new(tags))
     }
 
-    /// The tags in order. Takes no memory.
+    /// The tags in order.
     pub fn as_slice(&self) -> &[Tag]
         ensures { result.now ≡ self.now }
     {
@@ -101,5 +105,5 @@ impl Tags {
 pub(crate) fn is_tag(bytes: &[u8]) -> bool
     ensures { result ≡ is_tag bytes.now }
 {
-    1 <= bytes.len() && bytes.len() <= 16 && are_code_characters(bytes)
+    1 <= bytes.len() && bytes.len() <= LONGEST_TAG && are_code_characters(bytes)
 }

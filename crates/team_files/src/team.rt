@@ -19,7 +19,7 @@ pub struct Team {
 }
 
 impl Team {
-    /// An equal team, or want of memory.
+    /// An equal team.
     pub fn clone_in(&self, alloc: Global) -> Result<Team, AllocError>
         ensures { IfOk result (λ team. team ≡ self.now) }
     {

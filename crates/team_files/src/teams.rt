@@ -29,12 +29,13 @@ impl Model for Teams {
 
     ghost view = { λ t. t.teams.items };
 
-    ghost invariant = { λ t. AreTeams t.teams.items × (t.codes.keys ≡ map (λ team. team.code) t.teams.items) };
+    ghost invariant = { λ t.
+        AreTeams t.teams.items × (t.codes.keys ≡ map (λ team. team.code) t.teams.items) };
 }
 
 impl Teams {
     /// The teams of a vector of fewer than 2^32, or `SameCode` with the code of the first team that
-    /// has an earlier one's code. `NoMemory` can come in place of either.
+    /// has an earlier one's code.
     pub fn new(alloc: Global, teams: Vec<Team>) -> Result<Teams, FileFault>
         requires { length teams.items < 2 ^ 32 }
         ensures { Gives result (unless (same_code_fault teams.items) (Ok teams.items)) }
@@ -43,7 +44,7 @@ impl Teams {
         Ok(Teams { teams, codes })
     }
 
-    /// Equal teams, or want of memory.
+    /// Equal teams.
     pub fn clone_in(&self, alloc: Global) -> Result<Teams, AllocError>
         ensures { IfOk result (λ teams. teams ≡ self.now) }
     {
@@ -60,7 +61,7 @@ impl Teams {
     }
 
     /// The team that has the code, by its place in file order, from 0. `None` exactly where no team
-    /// has it. Takes no memory, and does not look through the teams.
+    /// has it. It does not look through the teams.
     pub fn find(&self, code: Code) -> Option<TeamId>
         ensures { result ≡ find code self.now }
     {
@@ -68,7 +69,7 @@ impl Teams {
         Some(TeamId(place as u32))
     }
 
-    /// A team by its place in file order, from 0 to one less than `number`. Takes no memory.
+    /// A team by its place in file order, from 0 to one less than `number`.
     pub fn get(&self, id: TeamId) -> &Team
         requires { id.0 < length self.now }
         ensures { slice_get self.now id.0 ≡ Some result.now }
@@ -84,7 +85,7 @@ impl Teams {
         self.teams.as_slice()
     }
 
-    /// How many teams there are. Takes no memory.
+    /// How many teams there are.
     pub fn number(&self) -> u32
         ensures number { result ≡ length self.now }
         ensures distinct { AreTeams self.now }
@@ -97,7 +98,8 @@ impl Teams {
 fn codes_of(alloc: Global, teams: &[Team]) -> Result<IndexSet<Code>, FileFault>
     ensures codes { IfOk result (λ codes. codes.keys ≡ map (λ team. team.code) teams.now) }
     ensures ok { IfOk result (λ codes. same_code_fault teams.now ≡ None) }
-    ensures fault { IfErr result (λ fault. fault ≢ FileFault.NoMemory → same_code_fault teams.now ≡ Some fault) }
+    ensures fault { IfErr result (λ fault.
+        fault ≢ FileFault.NoMemory → same_code_fault teams.now ≡ Some fault) }
 {
     let mut codes = IndexSet::new(alloc);
     for team in teams {

@@ -164,7 +164,7 @@ none: []
 "#;
 
 /// A head's first fault in short, or `none`.
-fn told(alloc: Global, head: &str) -> Result<String, AllocError> {
+fn fault_text(alloc: Global, head: &str) -> Result<String, AllocError> {
     let Err(fault) = read_head(alloc, head.as_bytes()) else {
         return String::from_str(alloc, "none");
     };
@@ -193,7 +193,7 @@ fn expect_table(
     for line in table.lines() {
         if let Some((fault, text)) = line.split_once(": ") {
             let head = format!(in alloc; "{}{text}{}", head.0, head.1)?;
-            let said = told(alloc, head.as_str())?;
+            let said = fault_text(alloc, head.as_str())?;
             assert!(rt; said.as_str() == fault, "{head}: {said}");
         }
     }
@@ -203,7 +203,7 @@ fn expect_table(
 #[test]
 fn heads_are_refused(rt: HostRuntime) -> Result<(), Fail> {
     let alloc = rt.alloc();
-    assert!(rt; told(alloc, "")?.as_str() == "NotJson");
+    assert!(rt; fault_text(alloc, "")?.as_str() == "NotJson");
     expect_table(&rt, alloc, HEADS, ("", ""))?;
     let start = format!(in alloc; r#"{{"kind":"pairing","teams":[{FIRST},"#)?;
     expect_table(&rt, alloc, TEAMS, (start.as_str(), "]}"))?;
@@ -258,12 +258,12 @@ fn head_of_teams(alloc: Global, list: &str) -> Result<String, AllocError> {
 }
 
 #[test]
-fn the_first_fault_of_teams_is_told(rt: HostRuntime) -> Result<(), Fail> {
+fn the_first_fault_of_teams_is_fault_text(rt: HostRuntime) -> Result<(), Fail> {
     let alloc = rt.alloc();
     for line in LISTS.lines() {
         if let Some((fault, list)) = line.split_once(": ") {
             let head = head_of_teams(alloc, list)?;
-            let said = told(alloc, head.as_str())?;
+            let said = fault_text(alloc, head.as_str())?;
             assert!(rt; said.as_str() == fault, "{list}: {said}");
         }
     }
@@ -274,7 +274,7 @@ fn the_first_fault_of_teams_is_told(rt: HostRuntime) -> Result<(), Fail> {
 fn bytes_that_are_no_text_are_refused(rt: HostRuntime) -> Result<(), Fail> {
     let alloc = rt.alloc();
     let marked = format!(in alloc; "\u{feff}{RICH}")?;
-    assert!(rt; told(alloc, marked.as_str())?.as_str() == "NotJson");
+    assert!(rt; fault_text(alloc, marked.as_str())?.as_str() == "NotJson");
     let bytes = [b'{', b'"', 0xff, b'"', b':', b'7', b'}'];
     assert!(rt; matches!(read_head(alloc, &bytes), Err(FileFault::NotJson)));
     // The object is one level more.
@@ -287,13 +287,13 @@ fn bytes_that_are_no_text_are_refused(rt: HostRuntime) -> Result<(), Fail> {
             head.push_str("]")?;
         }
         head.push_str("}")?;
-        assert!(rt; told(alloc, head.as_str())?.as_str() == fault);
+        assert!(rt; fault_text(alloc, head.as_str())?.as_str() == fault);
     }
     Ok(())
 }
 
 /// The part so many times, with commas between, in brackets.
-fn repeated(alloc: Global, part: &str, number: usize) -> Result<String, AllocError> {
+fn repetition(alloc: Global, part: &str, number: usize) -> Result<String, AllocError> {
     let mut list = format!(in alloc; "[{part}")?;
     for _ in 1..number {
         list.push_str(",")?;
@@ -307,35 +307,35 @@ fn repeated(alloc: Global, part: &str, number: usize) -> Result<String, AllocErr
 fn lists_have_limits(rt: HostRuntime) -> Result<(), Fail> {
     let alloc = rt.alloc();
     for (number, fault) in [(40, "SameCode BBB"), (41, "TooMany Teams 41")] {
-        let teams = repeated(alloc, SECOND, number)?;
+        let teams = repetition(alloc, SECOND, number)?;
         let head = format!(in alloc; r#"{{"kind":"pairing","teams":{teams}}}"#)?;
-        assert!(rt; told(alloc, head.as_str())?.as_str() == fault);
+        assert!(rt; fault_text(alloc, head.as_str())?.as_str() == fault);
     }
     for (number, fault) in [(64, "none"), (65, "TooMany Pairs 65")] {
-        let pairs = repeated(alloc, r#"["AAA","BBB"]"#, number)?;
+        let pairs = repetition(alloc, r#"["AAA","BBB"]"#, number)?;
         let head = format!(in alloc;
             r#"{{"kind":"pairing","teams":[{FIRST},{SECOND}],"pairs":{pairs}}}"#
         )?;
-        assert!(rt; told(alloc, head.as_str())?.as_str() == fault);
+        assert!(rt; fault_text(alloc, head.as_str())?.as_str() == fault);
     }
     Ok(())
 }
 
 /// The first fault of a head with so many teams without a code, and with so many pairs of a form.
-fn told_of_lists(
+fn fault_of_lists(
     alloc: Global,
     teams: usize,
     pairs: usize,
     pair: &str,
 ) -> Result<String, AllocError> {
-    let teams = repeated(
+    let teams = repetition(
         alloc,
         r#"{"code":"bbb","pot":1,"tags":["X"],"group":"A"}"#,
         teams,
     )?;
-    let pairs = repeated(alloc, pair, pairs)?;
+    let pairs = repetition(alloc, pair, pairs)?;
     let head = format!(in alloc; r#"{{"pairs":{pairs},"kind":"pairing","teams":{teams}}}"#)?;
-    told(alloc, head.as_str())
+    fault_text(alloc, head.as_str())
 }
 
 /// Numbers of teams and of pairs, and a pair, each behind the head's first fault.
@@ -349,7 +349,7 @@ const NUMBERS: [(&str, usize, usize, &str); 4] = [
 #[test]
 fn limits_stand_between_forms_and_codes(rt: HostRuntime) -> Result<(), Fail> {
     for (fault, teams, pairs, pair) in &NUMBERS {
-        let said = told_of_lists(rt.alloc(), *teams, *pairs, pair)?;
+        let said = fault_of_lists(rt.alloc(), *teams, *pairs, pair)?;
         assert!(rt; said.as_str() == *fault);
     }
     Ok(())

@@ -18,28 +18,28 @@ impl Model for Text {
 }
 
 impl Text {
-    /// The text of a string. Takes no memory.
+    /// The text of a string.
     pub fn new(text: String) -> Text
         ensures { result ≡ string_bytes text }
     {
         Text { text }
     }
 
-    /// A text of its own, or want of memory.
+    /// A text of its own.
     pub(crate) fn copy(alloc: Global, text: &str) -> Result<Text, AllocError>
         ensures { IfOk result (λ copied. copied ≡ text.now) }
     {
         Ok(Text::new(String::from_str(alloc, text)?))
     }
 
-    /// An equal text, or want of memory.
+    /// An equal text.
     pub fn clone_in(&self, alloc: Global) -> Result<Text, AllocError>
         ensures { IfOk result (λ text. text ≡ self.now) }
     {
         Text::copy(alloc, self.text.as_str())
     }
 
-    /// Its bytes. Takes no memory.
+    /// Its bytes.
     pub fn bytes(&self) -> &[u8]
         ensures { result.now ≡ self.now }
     {

@@ -1,8 +1,8 @@
 use Rattle.std.proofs.Common.{rules, arith, ◌≡◌, ◌≢◌, ◌<◌, Some, sym, ◌∙◌}
 use Rattle.draw_tables.specs.declared.moves.Phase.{Phase}
-use Rattle.draw_tables.specs.Pots.{IsAmong}
+use Rattle.draw_tables.specs.Lists.{IsAmong}
 use Rattle.draw_tables.specs.States.{phase_of, candidates}
-use Rattle.draw_tables.proofs.Picked.{offered_where_possible}
+use Rattle.draw_tables.proofs.OfferLaws.{offered_where_possible}
 use Rattle.draw_state.specs.Commands.{choice_of, most_commands}
 use Rattle.draw_state.proofs.Refusals.{for_excluded, accepted}
 use Rattle.draw_state.proofs.judging.judge_command.Goals as goal

@@ -1,11 +1,12 @@
+use Rattle.std.proofs.lemmas.Bool.{eqb-true, eq-eqb}
 use Rattle.std.proofs.lemmas.Bool.Decides.{nat_tests}
 use Rattle.std.proofs.Common.{◌≡◌, ℕ, ◌<◌, ◌≤◌, nat_lt, true, List, Some, slice_get, length, arith, sym, ◌∙◌, ap, zero-add}
 use Rattle.std.proofs.lemmas.Option.{slice_get_within}
 use Rattle.team_files.specs.declared.team.Team.{Team}
 use Rattle.team_files.specs.declared.team_id.TeamId.{TeamId}
-use Rattle.draw_tables.specs.Pots.{IsAmong, pot_from}
-use Rattle.draw_tables.proofs.Counts.{same_by_test, test_same}
-use Rattle.draw_tables.proofs.Among.{pot_among, among_pot}
+use Rattle.draw_tables.specs.Lists.{IsAmong}
+use Rattle.draw_tables.specs.Pots.{pot_from}
+use Rattle.draw_tables.proofs.PotMembers.{pot_among, among_pot}
 use Rattle.draw_tables.proofs.candidacy.is_in_pot.Goals as goal
 
 -- what passes the test is less
@@ -30,8 +31,8 @@ module _ (pot : ℕ) (ts : List Team) (x : TeamId) where
 
 pub returns-then-team-number : goal.returns-then-team-number
 returns-then-team-number c = (
-  λ e. rw (← c.teams-teams.ensures) (stands_in c.args.pot c.teams-teams.result.now c.args.team c.get.result.now c.get.ensures (same_by_test _ _ e)),
-  λ h. test_same _ _ (pot_of c.args.pot c.teams-teams.result.now c.args.team c.get.result.now c.get.ensures (rw (← c.teams-teams.ensures) at h)),
+  λ e. rw (← c.teams-teams.ensures) (stands_in c.args.pot c.teams-teams.result.now c.args.team c.get.result.now c.get.ensures (eqb-true _ _ e)),
+  λ h. eq-eqb _ _ (pot_of c.args.pot c.teams-teams.result.now c.args.team c.get.result.now c.get.ensures (rw (← c.teams-teams.ensures) at h)),
 )
 
 pub returns-else-team-number : goal.returns-else-team-number

@@ -1,7 +1,7 @@
 use Rattle.std.proofs.Common.{not, ap, sym, ◌∙◌}
 use Rattle.draw_tables.specs.Pots.{runners_up}
 use Rattle.draw_tables.specs.Moves.{is_drawn}
-use Rattle.draw_tables.proofs.Among.{kept_among, among_kept}
+use Rattle.draw_tables.proofs.PotMembers.{kept_among, among_kept}
 use Rattle.draw_tables.proofs.candidacy.is_undrawn.Goals as goal
 
 pub returns-then-is_in_pot : goal.returns-then-is_in_pot

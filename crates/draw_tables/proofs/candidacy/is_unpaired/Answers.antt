@@ -1,7 +1,7 @@
 use Rattle.std.proofs.Common.{not, ap, sym, ◌∙◌}
 use Rattle.draw_tables.specs.Pots.{winners}
 use Rattle.draw_tables.specs.PairingPhases.{is_paired}
-use Rattle.draw_tables.proofs.Among.{kept_among, among_kept}
+use Rattle.draw_tables.proofs.PotMembers.{kept_among, among_kept}
 use Rattle.draw_tables.proofs.candidacy.is_unpaired.Goals as goal
 
 pub returns-then-is_in_pot : goal.returns-then-is_in_pot

@@ -1,4 +1,4 @@
-use Rattle.draw_tables.proofs.Within.{candidates_within}
+use Rattle.draw_tables.proofs.FileTeams.{candidates_within}
 use Rattle.draw_tables.proofs.choices.candidates.Goals as goal
 
 pub returns-clause-of_file : goal.returns-clause-of_file

@@ -1,4 +1,4 @@
-use Rattle.draw_tables.proofs.Passing.{not_once_passed, not_once_next, not_once_found}
+use Rattle.draw_tables.proofs.PassSteps.{not_once_passed, not_once_next, not_once_found}
 use Rattle.draw_tables.proofs.judging.first_not_once.Goals as goal
 
 pub loop-place-preserved-then-get-ne1 : goal.loop-place-preserved-then-get-ne1

@@ -1,6 +1,6 @@
 use Rattle.std.proofs.Common.{◌∙◌, sym}
-use Rattle.draw_tables.specs.Passes.{breaks}
-use Rattle.draw_tables.proofs.Passing.{pair_passed, pair_broken, pair_kept, pairs_ended}
+use Rattle.draw_tables.specs.Pairings.{breaks}
+use Rattle.draw_tables.proofs.PassSteps.{pair_passed, pair_broken, pair_kept, pairs_ended}
 use Rattle.draw_tables.proofs.judging.first_pair.Goals as goal
 
 pub loop-place-preserved-then-get-ne2 : goal.loop-place-preserved-then-get-ne2

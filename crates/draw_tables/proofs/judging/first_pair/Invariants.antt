@@ -1,6 +1,7 @@
 use Rattle.std.proofs.Common.{◌≡◌, drop}
 use Rattle.draw_tables.specs.Pots.{AreTeamsOf, pot_from, runners_up}
-use Rattle.draw_tables.specs.Passes.{breaks, first_pair}
+use Rattle.draw_tables.specs.Pairings.{breaks}
+use Rattle.draw_tables.specs.Passes.{first_pair}
 use Rattle.draw_tables.proofs.judging.first_pair.Given as goal
 
 -- no pair before this place breaks the rule

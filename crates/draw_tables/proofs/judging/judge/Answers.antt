@@ -1,6 +1,6 @@
 use Rattle.std.proofs.Common.{◌≡◌, arith}
 use Rattle.std.proofs.lemmas.Grind.{common_steps}
-use Rattle.draw_tables.proofs.Judged.{pairs_of}
+use Rattle.draw_tables.proofs.Judgements.{pairs_of}
 use Rattle.draw_tables.proofs.judging.judge.Goals as goal
 
 pub returns-clause-broken : goal.returns-clause-broken

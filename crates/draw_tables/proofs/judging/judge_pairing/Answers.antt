@@ -1,5 +1,5 @@
 use Rattle.std.proofs.Common.{refl, sym, ◌∙◌}
-use Rattle.draw_tables.proofs.Judged.{few, judged_1, judged_2, judged_3, judged_4, judged_legal}
+use Rattle.draw_tables.proofs.Judgements.{few, judged_1, judged_2, judged_3, judged_4, judged_legal}
 use Rattle.draw_tables.proofs.judging.judge_pairing.Goals as goal
 
 pub first_not_once-requires : goal.first_not_once-requires

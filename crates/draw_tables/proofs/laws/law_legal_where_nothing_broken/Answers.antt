@@ -1,4 +1,4 @@
-use Rattle.draw_tables.proofs.Judged.{legal_where_none_broken, none_broken_where_legal}
+use Rattle.draw_tables.proofs.Judgements.{legal_where_none_broken, none_broken_where_legal}
 use Rattle.draw_tables.proofs.laws.law_legal_where_nothing_broken.Goals as goal
 
 pub returns-clause-legal : goal.returns-clause-legal

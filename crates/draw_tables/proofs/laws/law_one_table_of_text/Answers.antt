@@ -1,4 +1,4 @@
-use Rattle.draw_tables.proofs.TablesRead.{one_table_of_text}
+use Rattle.draw_tables.proofs.TableReading.{one_table_of_text}
 use Rattle.draw_tables.proofs.laws.law_one_table_of_text.Goals as goal
 
 pub returns : goal.returns

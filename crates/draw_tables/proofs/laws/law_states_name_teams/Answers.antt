@@ -1,4 +1,4 @@
-use Rattle.draw_tables.proofs.Named.{states_name_teams}
+use Rattle.draw_tables.proofs.NamedTeams.{states_name_teams}
 use Rattle.draw_tables.proofs.laws.law_states_name_teams.Goals as goal
 
 pub returns : goal.returns

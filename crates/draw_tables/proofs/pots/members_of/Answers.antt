@@ -1,4 +1,4 @@
-use Rattle.draw_tables.proofs.Members.{pot_lacks, pot_pushed}
+use Rattle.draw_tables.proofs.PotSteps.{pot_lacks, pot_pushed}
 use Rattle.draw_tables.proofs.pots.members_of.Goals as goal
 
 pub loop-place-preserved-then-get-pot : goal.loop-place-preserved-then-get-pot

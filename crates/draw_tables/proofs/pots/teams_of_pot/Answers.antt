@@ -1,4 +1,4 @@
-use Rattle.draw_tables.proofs.Within.{teams_within}
+use Rattle.draw_tables.proofs.FileTeams.{teams_within}
 use Rattle.draw_tables.proofs.pots.teams_of_pot.Goals as goal
 
 pub returns-clause-within : goal.returns-clause-within

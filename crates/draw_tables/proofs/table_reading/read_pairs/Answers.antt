@@ -1,6 +1,6 @@
 use Rattle.std.proofs.Common.{◌∙◌, sym, ap, ◌≡◌, Some, None, rules}
 use Rattle.draw_tables.specs.Reading.{teams_in}
-use Rattle.draw_tables.proofs.TablesRead.{read_is_text, no_text, read_first}
+use Rattle.draw_tables.proofs.TableReading.{read_is_text, no_text, read_first}
 use Rattle.draw_tables.proofs.table_reading.read_pairs.Goals as goal
 
 pub returns-in_err-read_teams-clause-not_table : goal.returns-in_err-read_teams-clause-not_table

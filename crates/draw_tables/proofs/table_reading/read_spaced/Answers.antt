@@ -1,5 +1,5 @@
 use Rattle.std.proofs.Common.{sym, ◌∙◌, rules, ◌≡◌, ◌++◌, ◌∷◌, []}
-use Rattle.draw_tables.proofs.Items.{none_before, read_next, read_none}
+use Rattle.draw_tables.proofs.ItemSteps.{none_before, read_next, read_none}
 use Rattle.draw_tables.proofs.table_reading.read_spaced.Goals as goal
 
 pub returns-in_default-clause-not_table : goal.returns-in_default-clause-not_table

@@ -1,6 +1,6 @@
 use Rattle.std.proofs.Common.{◌≡◌, ◌*◌, length, arith}
 use Rattle.draw_tables.specs.Pots.{runners_up}
-use Rattle.draw_tables.proofs.Halves.{half}
+use Rattle.draw_tables.proofs.HalfOfTeams.{half}
 use Rattle.draw_tables.proofs.table_reading.runners_after_first.Goals as goal
 
 pub overflow_sub-result : goal.overflow_sub-result

@@ -2,7 +2,7 @@ use Rattle.std.proofs.Common.{◌≡◌, Bool, true, false, length, rules, refl,
 use Rattle.std.specs.Prelude.{replicate}
 use Rattle.draw_tables.specs.Pots.{winners, runners_up}
 use Rattle.pairing_draw.specs.Search.{grid_of, rows_of}
-use Rattle.pairing_draw.proofs.Whole.{completes, none_completes, names_runners}
+use Rattle.pairing_draw.proofs.SearchTables.{completes, none_completes, names_runners}
 use Rattle.pairing_draw.proofs.completable.is_completable.Goals as goal
 
 -- a test that is not false where the fact holds is true where it does

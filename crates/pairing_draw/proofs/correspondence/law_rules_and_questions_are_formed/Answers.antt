@@ -1,4 +1,4 @@
-use Rattle.pairing_draw.proofs.Formed.{rules_formed}
+use Rattle.pairing_draw.proofs.FormedRules.{rules_formed}
 use Rattle.pairing_draw.proofs.StateMoves.{are_questions}
 use Rattle.pairing_draw.proofs.correspondence.law_rules_and_questions_are_formed.Goals as goal
 

@@ -1,4 +1,4 @@
-use Rattle.pairing_draw.proofs.Reading.{values_complete}
+use Rattle.pairing_draw.proofs.ReadTables.{values_complete}
 use Rattle.pairing_draw.proofs.correspondence.law_values_complete.Goals as goal
 
 pub returns : goal.returns

@@ -1,7 +1,7 @@
 use Rattle.std.proofs.Common.{◌≡◌, length, rules}
 use Rattle.draw_tables.specs.Pots.{runners_up, winners}
 use Rattle.pairing_draw.specs.Encoding.{IsRead}
-use Rattle.pairing_draw.proofs.Reading.{row_true, legal, extends, read_teams}
+use Rattle.pairing_draw.proofs.ReadTables.{row_true, legal, extends, read_teams}
 use Rattle.pairing_draw.proofs.decoding.decode.Goals as goal
 
 pub read_rows-requires-clause-each : goal.read_rows-requires-clause-each

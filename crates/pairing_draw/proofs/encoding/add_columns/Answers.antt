@@ -1,5 +1,5 @@
 use Rattle.pairing_draw.specs.Encoding.{column_rule}
-use Rattle.pairing_draw.proofs.Numbers.{more}
+use Rattle.pairing_draw.proofs.AtomNumbers.{more}
 use Rattle.pairing_draw.proofs.encoding.add_columns.Goals as goal
 
 pub loop-winner-preserved : goal.loop-winner-preserved

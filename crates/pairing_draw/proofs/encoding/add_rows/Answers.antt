@@ -1,5 +1,5 @@
 use Rattle.pairing_draw.specs.Encoding.{row_rule}
-use Rattle.pairing_draw.proofs.Numbers.{more}
+use Rattle.pairing_draw.proofs.AtomNumbers.{more}
 use Rattle.pairing_draw.proofs.encoding.add_rows.Goals as goal
 
 pub loop-runner-preserved : goal.loop-runner-preserved

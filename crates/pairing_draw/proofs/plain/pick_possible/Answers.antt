@@ -1,7 +1,7 @@
 use Rattle.std.proofs.Common.{◌≡◌, ◌+◌, Bool, true, false, drop, get_or}
 use Rattle.draw_tables.specs.declared.moves.Choice.{Choice}
 use Rattle.draw_tables.specs.Offers.{IsPossible}
-use Rattle.pairing_draw.proofs.Picking.{pick_one, pass_one, next_is, picked_all}
+use Rattle.pairing_draw.proofs.OfferSteps.{pick_one, pass_one, next_is, picked_all}
 use Rattle.pairing_draw.proofs.plain.pick_possible.Goals as goal
 
 abbrev none : Choice

@@ -1,5 +1,5 @@
 use Rattle.draw_tables.specs.States.{phase_of}
-use Rattle.pairing_draw.proofs.Drawing.{all_offered, drawn_by, none_offered}
+use Rattle.pairing_draw.proofs.DrawnOffers.{all_offered, drawn_by, none_offered}
 use Rattle.pairing_draw.proofs.plain.plain_offer.Goals as goal
 use Rattle.pairing_draw.proofs.plain.plain_offer.Goals.{in-Opponent+in_ok-offered-in-Opponent, in_default, in_default-2}
 

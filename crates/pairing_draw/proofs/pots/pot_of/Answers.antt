@@ -1,4 +1,4 @@
-use Rattle.pairing_draw.proofs.Formed.{few_teams}
+use Rattle.pairing_draw.proofs.FormedRules.{few_teams}
 use Rattle.pairing_draw.proofs.pots.pot_of.Goals as goal
 
 pub returns-clause-few : goal.returns-clause-few

@@ -1,7 +1,7 @@
 use Rattle.std.proofs.Common.{◌≡◌, true, false, Some, slice_get, get_or, arith, below_more, ◌∙◌}
 use Rattle.std.proofs.lemmas.Grind.{common_steps}
 use Rattle.std.proofs.lemmas.Option.{gets}
-use Rattle.pairing_draw.proofs.Turns.{finished, not_finished, restored}
+use Rattle.pairing_draw.proofs.SearchSteps.{finished, not_finished, restored}
 use Rattle.pairing_draw.proofs.search.+can_finish.Goals as goal
 use Rattle.pairing_draw.proofs.search.+can_finish.Goals.{then-is_open+else-finished, else-is_open}
 

@@ -1,6 +1,6 @@
 use Rattle.std.proofs.Common.{◌∙◌}
 use Rattle.serde_json.specs.View.{view}
-use Rattle.team_files.proofs.TeamSteps.{one_more}
+use Rattle.team_files.proofs.TeamReading.{one_more}
 use Rattle.team_files.proofs.forms.all_team_fields.Goals as goal
 
 pub loop-team-preserved : goal.loop-team-preserved

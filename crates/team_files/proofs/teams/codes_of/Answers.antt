@@ -1,5 +1,5 @@
 use Rattle.std.proofs.Common.{◌∙◌, sym}
-use Rattle.team_files.proofs.Codes.{repeated, added, goes_on}
+use Rattle.team_files.proofs.CodeSets.{repeated, added, goes_on}
 use Rattle.team_files.proofs.teams.codes_of.Goals as goal
 
 pub returns-then-not-is_new-clause-fault : goal.returns-then-not-is_new-clause-fault

@@ -1,4 +1,4 @@
-use Rattle.team_files.proofs.Alphabet.{code_is_text}
+use Rattle.team_files.proofs.CodeTexts.{code_is_text}
 use Rattle.team_files.proofs.code.Code.text.Goals as goal
 
 pub unreachable-requires : goal.unreachable-requires

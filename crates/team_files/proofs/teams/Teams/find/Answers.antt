@@ -1,5 +1,5 @@
 use Rattle.std.proofs.Common.{Some, None}
-use Rattle.team_files.proofs.Codes.{found}
+use Rattle.team_files.proofs.CodeSets.{found}
 use Rattle.team_files.proofs.teams.Teams.find.Goals as goal
 
 pub returns-in_err-place : goal.returns-in_err-place

@@ -1,0 +1,114 @@
+-- What a state names is of its file: its moves, its phase, its candidates, and what is offered in it.
+use Rattle.std.proofs.Common.{◌≡◌, ℕ, zero, suc, Bool, true, false, not, List, [], ◌∷◌, ◌++◌, Option, Some, None, inl, inr, slice_get, refl}
+use Rattle.std.specs.Option.{option_or}
+use Rattle.team_files.specs.declared.kind.Kind.{Kind}
+use Rattle.team_files.specs.declared.team_id.TeamId.{TeamId}
+use Rattle.team_files.specs.Members.{where_true}
+use Rattle.rule_sets.specs.Files.{DrawFile}
+use Rattle.draw_tables.specs.declared.moves.Move.{Move}
+use Rattle.draw_tables.specs.declared.moves.Move.TheVariants.{Drawn, Paired}
+use Rattle.draw_tables.specs.declared.moves.Choice.{Choice}
+use Rattle.draw_tables.specs.declared.moves.Choice.TheVariants.{Team}
+use Rattle.draw_tables.specs.declared.moves.Phase.{Phase}
+use Rattle.draw_tables.specs.declared.moves.Phase.TheVariants.{Runner, Opponent, Complete}
+use Rattle.draw_tables.specs.Lists.{IsAmong}
+use Rattle.draw_tables.specs.Pots.{IsTeamOf}
+use Rattle.draw_tables.specs.Moves.{last_drawn}
+use Rattle.draw_tables.specs.PairingPhases.{has_opponent, undrawn_runners_up, pairing_phase_with, pairing_phase}
+use Rattle.draw_tables.specs.States.{phase_by, phase_of, candidates, move_in, IsCandidateMove, AreMovesAfter}
+use Rattle.draw_tables.specs.Offers.{IsPossible, Picks}
+use Rattle.draw_tables.specs.Names.{IsFileMove, AreFileMoves, IsFileChoice, AreFileChoices, IsFilePhase, StatesNameTeams}
+use Rattle.draw_tables.proofs.FileTeams.{candidates_within}
+
+-- ---- choices
+
+-- One of the file's choices is of the file.
+pub choice_among_of : (file : DrawFile) (cs : List Choice) (c : Choice) → AreFileChoices file cs → IsAmong cs c → IsFileChoice file c
+choice_among_of file cs c h among = at cs among.0 h among.1
+  where
+    at : (ds : List Choice) (k : ℕ) → AreFileChoices file ds → slice_get ds k ≡ Some c → IsFileChoice file c
+    at [] k h e = cc
+    at (d ∷ ds) zero h e = let same : d ≡ c = cc in rw (← same) h.0
+    at (d ∷ ds) (suc k) h e = at ds k h.1 e
+
+-- what is picked of the file's choices is of the file
+picked_of : (file : DrawFile) (P : Choice → Type 0) (cs os : List Choice) → Picks P cs os → AreFileChoices file cs → AreFileChoices file os
+picked_of file P [] [] h a = tt
+picked_of file P [] (o ∷ os) h a = absurd h
+picked_of file P (c ∷ cs) os (inl h) a = rw h.1.1 (a.0, picked_of file P cs h.1.0 h.1.2 a.1)
+picked_of file P (c ∷ cs) os (inr h) a = picked_of file P cs os h.1 a.1
+
+-- ---- phases
+
+-- the team that was drawn last is of the file
+last_of : (file : DrawFile) (ms : List Move) (r : TeamId) → AreFileMoves file ms → last_drawn ms ≡ Some r → IsTeamOf file r
+last_of file [] r h e = cc
+last_of file (Drawn t ∷ ms) r h e = go (λ f. last_of file ms r h.1 f) (last_drawn ms) refl e
+  where
+    go : (last_drawn ms ≡ Some r → IsTeamOf file r) → (later : Option TeamId) → last_drawn ms ≡ later → option_or later (Some t) ≡ Some r → IsTeamOf file r
+    go found None is f = let same : t ≡ r = cc in rw (← same) h.0
+    go found (Some s) is f = found (rw is f)
+last_of file (Paired a b ∷ ms) r h e = go (λ f. last_of file ms r h.1 f) (last_drawn ms) refl e
+  where
+    go : (last_drawn ms ≡ Some r → IsTeamOf file r) → (later : Option TeamId) → last_drawn ms ≡ later → option_or later None ≡ Some r → IsTeamOf file r
+    go found None is f = cc
+    go found (Some s) is f = found (rw is f)
+
+-- the phase of a pairing is of the file
+pairing_phase_of : (file : DrawFile) (ms : List Move) → AreFileMoves file ms → IsFilePhase file (pairing_phase file ms)
+pairing_phase_of file ms h = go (last_drawn ms) refl
+  where
+    left : (ts : List TeamId) → IsFilePhase file (pairing_phase_with None ts)
+    left [] = tt
+    left (t ∷ ts) = tt
+
+    held : (r : TeamId) (b : Bool) → IsTeamOf file r → IsFilePhase file (pairing_phase_with (where_true (not b) r) (undrawn_runners_up file ms))
+    held r true n = left (undrawn_runners_up file ms)
+    held r false n = n
+
+    go : (last : Option TeamId) → last_drawn ms ≡ last → IsFilePhase file (pairing_phase file ms)
+    go None is = rw is (left (undrawn_runners_up file ms))
+    go (Some r) is = rw is (held r (has_opponent r ms) (last_of file ms r h is))
+
+-- After moves of the file the phase is of the file.
+pub phase_is_of : (file : DrawFile) (ms : List Move) → AreFileMoves file ms → IsFilePhase file (phase_of file ms)
+phase_is_of file ms h = by_kind file.kind
+  where
+    by_kind : (k : Kind) → IsFilePhase file (phase_by k file ms)
+    by_kind Kind.Pairing = pairing_phase_of file ms h
+
+-- ---- moves
+
+-- The move of a choice of the file in a phase of the file is of the file.
+pub move_is_of : (file : DrawFile) (p : Phase) (c : Choice) (m : Move) → IsFilePhase file p → IsFileChoice file c → move_in p c ≡ Some m → IsFileMove file m
+move_is_of file Runner (Team t) m a b e = let same : Drawn t ≡ m = cc in rw (← same) b
+move_is_of file (Opponent r) (Team t) m a b e = let same : Paired r t ≡ m = cc in rw (← same) (a, b)
+move_is_of file Complete (Team t) m a b e = cc
+
+-- Moves of the file, one list after the other, are of the file.
+pub moves_are_of : (file : DrawFile) (ms ns : List Move) → AreFileMoves file ms → AreFileMoves file ns → AreFileMoves file (ms ++ ns)
+moves_are_of file [] ns h g = g
+moves_are_of file (m ∷ ms) ns h g = (h.0, moves_are_of file ms ns h.1 g)
+
+-- A candidate's move is of the file, where the moves before it are.
+pub candidate_move_is_of : (file : DrawFile) (before : List Move) (m : Move) → AreFileMoves file before → IsCandidateMove file before m → IsFileMove file m
+candidate_move_is_of file before m named (c, is) =
+    let choice = choice_among_of file (candidates file before) c (candidates_within file before (phase_of file before)) is.0 in
+    move_is_of file (phase_of file before) c m (phase_is_of file before named) choice is.1
+
+moves_after_are_of : (file : DrawFile) (before ms : List Move) → AreFileMoves file before → AreMovesAfter file before ms → AreFileMoves file ms
+moves_after_are_of file before [] named h = tt
+moves_after_are_of file before (m ∷ ms) named h =
+    let here = candidate_move_is_of file before m named h.0 in
+    (here, moves_after_are_of file (before ++ m ∷ []) ms (moves_are_of file before (m ∷ []) named (here, tt)) h.1)
+
+-- ---- the law
+
+-- what a state names is of its file
+pub states_name_teams : StatesNameTeams
+states_name_teams = record {
+  moves = λ file ms state. moves_after_are_of file [] ms tt state;
+  phase = λ file ms state. phase_is_of file ms (moves_after_are_of file [] ms tt state);
+  candidates = λ file ms. candidates_within file ms (phase_of file ms);
+  offer = λ file ms os offer. picked_of file (IsPossible file ms) (candidates file ms) os offer (candidates_within file ms (phase_of file ms));
+}
