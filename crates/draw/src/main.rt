@@ -14,12 +14,5 @@ fn main(rt: HostRuntime) -> ExitCode {
     let mut source = StdSource::new(rt.reader());
     let mut sink = StdSink::new(io::writer(&rt));
     let mut errors = StdSink::new(rt.stderr());
-    run_program(
-        &rt,
-        rt.alloc(),
-        words,
-        &mut source,
-        &mut sink,
-        &mut errors,
-    )
+    run_program(&rt, rt.alloc(), words, &mut source, &mut sink, &mut errors)
 }
