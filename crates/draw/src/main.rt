@@ -1,43 +1,18 @@
 //! The program `draw`: answers the balls of a draw with the choices that may follow.
 #![tactic(auto)]
 
-ghost use Rattle.std.specs.Prelude.{◌≡◌};
-ghost use Rattle.std.specs.Process.{exit_status};
-ghost use Rattle.draw_top.specs.Statuses.{status_number};
+mod program;
 
-use draw_ports::{OpenGate, StdSink, StdSource};
-use draw_top::{Status, run_draw};
+use crate::program::run_program;
+use draw_ports::{StdSink, StdSource, read_arguments};
 use std::process::ExitCode;
 use std::{env, io};
 
-/// The exit code of a status: its number.
-fn exit_code(status: Status) -> ExitCode
-    ensures { exit_status result ≡ status_number status }
-{
-    ExitCode::from(status.number())
-}
-
-/// Hands the words after the program's name, standard input and standard output to `run_draw`.
-/// Where a word is no text the words are none, which is Usage; where memory fails while the words
-/// are taken, the program ends with 5.
+/// Makes the words and the streams; all else is done by `run_program`.
 fn main(rt: HostRuntime) -> ExitCode {
-    let alloc = rt.alloc();
-    let words: Vec<String> = match env::args(&rt) {
-        Ok(args) => match args.skip(1).collect(alloc) {
-            Ok(words) => words,
-            Err(_) => return ExitCode::from(5),
-        },
-        Err(error) if error.kind() == io::ErrorKind::OutOfMemory => return ExitCode::from(5),
-        Err(_) => Vec::new(alloc),
-    };
+    let words = read_arguments(rt.alloc(), env::args(&rt));
     let mut source = StdSource::new(rt.reader());
     let mut sink = StdSink::new(io::writer(&rt));
-    exit_code(run_draw(
-        &rt,
-        alloc,
-        words.as_slice(),
-        &mut source,
-        &mut sink,
-        &OpenGate,
-    ))
+    let mut errors = StdSink::new(rt.stderr());
+    run_program(&rt, rt.alloc(), words, &mut source, &mut sink, &mut errors)
 }

@@ -5,6 +5,8 @@
 //! caller that promises "it gave up only where the count rose" can't give up on its own.
 //!
 //! A count that stands at 2^64 - 1, where it stays, counts as risen.
+//!
+//! The edges that all programs have stand here too: their words, and how they end.
 #![tactic(auto)]
 
 ghost use Rattle.std.specs.Prelude.{◌≡◌, ℕ, ◌<◌, ◌≤◌, List, Option, length, IfOk};
@@ -12,13 +14,18 @@ ghost use Rattle.std.specs.Io.{ReadsAtMost, WritesAtMost};
 ghost use Rattle.std.specs.Io.KnownBytes.{ReadConsumes, WriteAppends};
 ghost use Rattle.draw_ports.specs.Causes.{HasCause};
 
+mod arguments;
+mod exits;
 mod gate;
 mod memory_sink;
 mod memory_source;
+mod outcomes;
 mod std_sink;
 mod std_source;
 mod transfer;
 
+pub use arguments::read_arguments;
+pub use exits::exit_code;
 pub use gate::{Gate, GatePoint, OpenGate};
 pub use memory_sink::MemorySink;
 pub use memory_source::MemorySource;

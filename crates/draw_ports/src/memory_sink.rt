@@ -27,7 +27,13 @@ impl Model for MemorySink {
 
     ghost Value = { Store };
 
-    ghost view = { λ s. record { wrote = s.bytes.items; room = s.room; fails = s.fails.items; calls = s.calls; faults = s.faults } };
+    ghost view = { λ s. record {
+      wrote = s.bytes.items;
+      room = s.room;
+      fails = s.fails.items;
+      calls = s.calls;
+      faults = s.faults;
+    } };
 
     ghost invariant = { λ s. (vec_len s.bytes ≤ s.room) × (s.room ≤ vec_capacity s.bytes) };
 }
@@ -79,7 +85,8 @@ impl Sink for MemorySink {
         // When it fails, and how much it takes.
         ensures failing { IsErr result ↔ (Contains self.old.fails self.old.calls
             ⊎ ((self.old.room ≤ length self.old.wrote) × (0 < length bytes.now))) }
-        ensures count { IfOk result (λ n. n ≡ min (length bytes.now) (self.old.room - length self.old.wrote)) }
+        ensures count { IfOk result (λ n.
+            n ≡ min (length bytes.now) (self.old.room - length self.old.wrote)) }
 
         // The two counts stop at the end of a `u64`.
         ensures calls { self.new.calls ≡ min (self.old.calls + 1) (2 ^ 64 - 1) }

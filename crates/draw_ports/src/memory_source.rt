@@ -27,7 +27,13 @@ impl Model for MemorySource {
 
     ghost Value = { Supply };
 
-    ghost view = { λ s. record { left = drop s.at s.bytes.items; most = s.most; fails = s.fails.items; calls = s.calls; faults = s.faults } };
+    ghost view = { λ s. record {
+      left = drop s.at s.bytes.items;
+      most = s.most;
+      fails = s.fails.items;
+      calls = s.calls;
+      faults = s.faults;
+    } };
 
     ghost invariant = { λ s. (s.at ≤ vec_len s.bytes) × (1 ≤ s.most) };
 }
@@ -69,7 +75,8 @@ impl Source for MemorySource {
 
         // When it fails, how much it gives, and what the slice then holds.
         ensures failing { IsErr result ↔ Contains self.old.fails self.old.calls }
-        ensures count { IfOk result (λ n. n ≡ min (min self.old.most (length into.old)) (length self.old.left)) }
+        ensures count { IfOk result (λ n.
+            n ≡ min (min self.old.most (length into.old)) (length self.old.left)) }
         ensures filled { IfOk result (λ n. into.new ≡ take n self.old.left ++ drop n into.old) }
         ensures unfilled { OnErr result (into.new ≡ into.old) }
 

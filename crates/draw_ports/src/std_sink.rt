@@ -4,6 +4,7 @@ ghost use Rattle.std.specs.Io.{WritesAtMost};
 ghost use Rattle.std.specs.Io.KnownBytes.{WriteAppends};
 ghost use Rattle.draw_ports.specs.Causes.{HasCause};
 
+use crate::outcomes::write_outcome;
 use crate::{Failed, Sink};
 use std::io::Write;
 use std::marker::Model;
@@ -47,21 +48,13 @@ impl<T: Write + Drop> Sink for StdSink<T> {
         ensures some { IfOk result (λ n. 0 < length bytes.now → 0 < n) }
         ensures bytes { WriteAppends None None result bytes.now }
         ensures cause { HasCause self.old.faults self.new.faults result }
-        ensures writes { WriteAppends (T.contents self.old.inner) (T.contents self.new.inner) result bytes.now }
+        ensures writes { WriteAppends
+            (T.contents self.old.inner) (T.contents self.new.inner) result bytes.now }
         ensures risen { OnErr result (self.new.faults ≡ min (self.old.faults + 1) (2 ^ 64 - 1)) }
         ensures quiet { OnOk result (self.new.faults ≡ self.old.faults) }
     {
-        match self.writer.write(bytes) {
-            Ok(0) if bytes.len() > 0 => {
-                self.faults = self.faults.saturating_add(1);
-                Err(Failed)
-            }
-            Ok(count) => Ok(count),
-            Err(_) => {
-                self.faults = self.faults.saturating_add(1);
-                Err(Failed)
-            }
-        }
+        let answer = self.writer.write(bytes);
+        write_outcome(answer, bytes.len(), &mut self.faults)
     }
 }
 
@@ -91,6 +84,20 @@ mod tests {
         let mut sink = StdSink::new(Vec::new(rt.alloc()));
         assert!(rt; put_all(&mut sink, b"draw").is_ok());
         assert_eq!(rt; sink.writer.as_slice(), b"draw".as_slice());
+        assert_eq!(rt; sink.faults, 0);
+        Ok(())
+    }
+
+    // However much is given, each put is one write.
+    #[test]
+    fn puts_much_and_none(rt: HostRuntime) -> Result<(), Fail> {
+        let alloc = rt.alloc();
+        let long = vec![in alloc; b'x'; 100_000]?;
+        let mut sink = StdSink::new(Vec::new(alloc));
+        assert!(rt; matches!(sink.put(&[]), Ok(0)));
+        assert!(rt; matches!(sink.put(&long), Ok(100_000)));
+        assert!(rt; matches!(sink.put(&[]), Ok(0)));
+        assert_eq!(rt; sink.writer.as_slice(), long.as_slice());
         assert_eq!(rt; sink.faults, 0);
         Ok(())
     }

@@ -4,6 +4,7 @@ ghost use Rattle.std.specs.Io.{ReadsAtMost};
 ghost use Rattle.std.specs.Io.KnownBytes.{ReadConsumes};
 ghost use Rattle.draw_ports.specs.Causes.{HasCause};
 
+use crate::outcomes::read_outcome;
 use crate::{Failed, Source};
 use std::io::Read;
 use std::marker::Model;
@@ -45,17 +46,13 @@ impl<T: Read + Drop> Source for StdSource<T> {
         ensures bound { ReadsAtMost result into.new }
         ensures bytes { ReadConsumes None None result into.new }
         ensures cause { HasCause self.old.faults self.new.faults result }
-        ensures reads { ReadConsumes (T.remaining self.old.inner) (T.remaining self.new.inner) result into.new }
+        ensures reads { ReadConsumes
+            (T.remaining self.old.inner) (T.remaining self.new.inner) result into.new }
         ensures risen { OnErr result (self.new.faults ≡ min (self.old.faults + 1) (2 ^ 64 - 1)) }
         ensures quiet { OnOk result (self.new.faults ≡ self.old.faults) }
     {
-        match self.reader.read(into) {
-            Ok(count) => Ok(count),
-            Err(_) => {
-                self.faults = self.faults.saturating_add(1);
-                Err(Failed)
-            }
-        }
+        let answer = self.reader.read(into);
+        read_outcome(answer, &mut self.faults)
     }
 }
 
@@ -92,6 +89,21 @@ mod tests {
         };
         assert_eq!(rt; fault, PortFault::Read);
         assert_eq!(rt; broken.faults, 1);
+        Ok(())
+    }
+
+    // However much is asked for, each take is one read.
+    #[test]
+    fn takes_much_and_none(rt: HostRuntime) -> Result<(), Fail> {
+        let alloc = rt.alloc();
+        let long = vec![in alloc; b'x'; 100_000]?;
+        let mut into = vec![in alloc; 0u8; 100_000]?;
+        let mut source = StdSource::new(long.as_slice());
+        assert!(rt; matches!(source.take(&mut []), Ok(0)));
+        assert!(rt; matches!(source.take(&mut into), Ok(100_000)));
+        assert_eq!(rt; into.as_slice(), long.as_slice());
+        assert!(rt; matches!(source.take(&mut into), Ok(0)));
+        assert_eq!(rt; source.faults, 0);
         Ok(())
     }
 }

@@ -22,7 +22,7 @@ pub fn read_all<S: Source>(alloc: Global, src: &mut S, limit: u64) -> Result<Vec
         × IfSome (S.left src.old) (λ xs. limit < length xs)
         × (S.faults src.new ≡ S.faults src.old) }
     ensures no_memory { IsErrOf result PortFault.NoMemory → S.faults src.new ≡ S.faults src.old }
-    ensures write { IsErrOf result PortFault.Write → ⊥ }
+    ensures write { ¬ IsErrOf result PortFault.Write }
     ensures taken { OnErr result (TakesSome (S.left src.old) (S.left src.new)) }
 {
     let mut all = Vec::new(alloc);
@@ -52,7 +52,8 @@ pub fn put_all<K: Sink>(sink: &mut K, bytes: &[u8]) -> Result<(), PortFault>
     ensures quiet { OnOk result (K.faults sink.new ≡ K.faults sink.old) }
     ensures later { K.faults sink.old ≤ K.faults sink.new }
     ensures some { OnErr result (AppendsSome (K.wrote sink.old) (K.wrote sink.new) bytes.now) }
-    ensures write { OnErr result (IsErrOf result PortFault.Write × Rose (K.faults sink.old) (K.faults sink.new)) }
+    ensures write { OnErr result (IsErrOf result PortFault.Write
+        × Rose (K.faults sink.old) (K.faults sink.new)) }
 {
     let mut done = 0;
     while done < bytes.len() {

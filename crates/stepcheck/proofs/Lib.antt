@@ -4,3 +4,4 @@ pub mod WordFronts
 pub mod LineFronts
 pub mod Lists
 pub mod Runs
+pub mod Ended

@@ -3,3 +3,4 @@ pub mod ListTexts
 pub mod Fronts
 pub mod Runs
 pub mod Verdicts
+pub mod Endings
