@@ -28,6 +28,15 @@ line_of piece = without_last 13 (without_last 10 piece)
 abbrev pub lines_of : List ℕ → List (List ℕ)
 lines_of bytes = map line_of (pieces bytes)
 
+-- the first piece of the bytes, and what follows it, byte for byte
+abbrev pub IsFirstPiece : List ℕ → List ℕ → List ℕ → Type 0
+IsFirstPiece bytes piece rest = pieces bytes ≡ piece ∷ pieces rest
+
+-- the first line of the bytes, and what follows its piece
+abbrev pub IsFirstLine : List ℕ → List ℕ → List ℕ → Type 0
+IsFirstLine bytes line rest =
+    (piece : List ℕ) × IsFirstPiece bytes piece rest × (line ≡ line_of piece)
+
 -- the separator is the line --
 abbrev pub is_separator : List ℕ → Bool
 is_separator piece = bytes_eq (line_of piece) (codes "--")
@@ -77,7 +86,7 @@ command_lines input = map line_of (after_separator (pieces input))
 
 -- the last byte of the text is not b
 abbrev pub DoesNotEndWith : ℕ → List ℕ → Type 0
-DoesNotEndWith b text = (front : List ℕ) → text ≡ front ++ b ∷ [] → ⊥
+DoesNotEndWith b text = (front : List ℕ) → text ≢ front ++ b ∷ []
 
 -- A line loses its end and nothing else: a line feed, a carriage return and a line feed, or a carriage return; never two carriage returns.
 pub record LinesLoseTheirEnds : Type 0 where

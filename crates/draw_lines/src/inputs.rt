@@ -1,7 +1,10 @@
-ghost use Rattle.std.specs.Prelude.{◌≡◌, ◌<◌, ◌++◌, [], ◌∷◌, List, ℕ, length, MatchOption, IfSome};
-ghost use Rattle.draw_lines.specs.Inputs.{pieces, after_separator, is_separator, without_last, line_of, lines_of, head_of, command_lines, PiecesAreLines, LinesLoseTheirEnds, HeadBeforeSeparator};
+ghost use Rattle.std.specs.Prelude.{◌≡◌, ◌<◌, ◌++◌, [], ◌∷◌, length, MatchOption, IfSome};
+ghost use Rattle.draw_lines.specs.Inputs.{pieces, IsFirstPiece, IsFirstLine};
+ghost use Rattle.draw_lines.specs.Inputs.{after_separator, is_separator, head_of, command_lines};
+ghost use Rattle.draw_lines.specs.Inputs.{without_last, line_of, lines_of};
+ghost use Rattle.draw_lines.specs.Inputs.{PiecesAreLines, LinesLoseTheirEnds, HeadBeforeSeparator};
 
-/// The head of an input, and what follows the separator line, byte for byte. Takes no memory.
+/// The head of an input, and what follows the separator line, byte for byte.
 pub fn split_input(bytes: &[u8]) -> (&[u8], &[u8])
     ensures head { result.0.now ≡ head_of bytes.now }
     ensures rest { lines_of result.1.now ≡ command_lines bytes.now }
@@ -20,10 +23,10 @@ pub fn split_input(bytes: &[u8]) -> (&[u8], &[u8])
 }
 
 /// The first line without its end, and the bytes after it. `None` exactly where there are no bytes.
-/// Takes no memory.
 pub fn first_line(bytes: &[u8]) -> Option<(&[u8], &[u8])>
-    ensures lines { MatchOption result (bytes.now ≡ []) (λ cut. lines_of bytes.now ≡ cut.0.now ∷ lines_of cut.1.now) }
-    ensures cut { IfSome result (λ cut. (piece : List ℕ) × (pieces bytes.now ≡ piece ∷ pieces cut.1.now) × (cut.0.now ≡ line_of piece)) }
+    ensures lines { MatchOption result (bytes.now ≡ [])
+        (λ cut. lines_of bytes.now ≡ cut.0.now ∷ lines_of cut.1.now) }
+    ensures cut { IfSome result (λ cut. IsFirstLine bytes.now cut.0.now cut.1.now) }
     ensures shorter { IfSome result (λ cut. length cut.1.now < length bytes.now) }
 {
     let (piece, rest) = first_piece(bytes)?;
@@ -33,7 +36,8 @@ pub fn first_line(bytes: &[u8]) -> Option<(&[u8], &[u8])>
 /// The first line with its line feed, and the bytes after it. `None` exactly where there are no
 /// bytes.
 fn first_piece(bytes: &[u8]) -> Option<(&[u8], &[u8])>
-    ensures pieces { MatchOption result (bytes.now ≡ []) (λ cut. pieces bytes.now ≡ cut.0.now ∷ pieces cut.1.now) }
+    ensures pieces { MatchOption result (bytes.now ≡ [])
+        (λ cut. IsFirstPiece bytes.now cut.0.now cut.1.now) }
     ensures whole { IfSome result (λ cut. cut.0.now ++ cut.1.now ≡ bytes.now) }
     ensures some { IfSome result (λ cut. 0 < length cut.0.now) }
 {
@@ -82,14 +86,14 @@ pub fn law_pieces_are_lines()
 
 /// A line is a piece without its end: without its line feed, without a carriage return and a line
 /// feed, or without a carriage return. Of two carriage returns one stays, and a piece that ends in
-/// neither is its own line. Does nothing.
+/// neither is its own line.
 pub fn law_lines_lose_their_ends()
     ensures { LinesLoseTheirEnds }
 {}
 
 /// The head is the bytes before the first separator, a piece whose line is `--`, and the command
 /// lines are the lines of the pieces after it. Where no piece is a separator, the head is the whole
-/// input, and there are no command lines. Does nothing.
+/// input, and there are no command lines.
 pub fn law_head_before_separator()
     ensures { HeadBeforeSeparator }
 {}

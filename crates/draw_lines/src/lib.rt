@@ -1,4 +1,7 @@
 //! Lines of an input, commands as they are written, and the texts of replies.
+//!
+//! A call that answers `NoMemory` does so only where memory ran out; every other call takes no
+//! memory. A law does nothing: its clause is what it is for.
 #![tactic(auto)]
 
 mod inputs;

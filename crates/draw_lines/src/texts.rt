@@ -1,8 +1,12 @@
-ghost use Rattle.std.specs.Prelude.{◌≡◌, ◌++◌, IfOk, OnOk, codes};
-ghost use Rattle.draw_tables.specs.Names.{AreFileChoices, AreFileMoves, IsFileChoice, IsFileMove, IsFilePhase};
+ghost use Rattle.std.specs.Prelude.{◌≡◌, ◌++◌, IfOk, OnOk};
+ghost use Rattle.draw_tables.specs.declared.moves.Move.{Move as MoveValue};
+ghost use Rattle.draw_tables.specs.Names.{AreFileChoices, IsFileChoice};
+ghost use Rattle.draw_tables.specs.Names.{AreFileMoves, IsFileMove, IsFilePhase};
 ghost use Rattle.draw_tables.specs.Pots.{IsTeamOf};
 ghost use Rattle.draw_state.specs.Replies.{IsFileNextLine, IsFileReply, WaitsForBall};
-ghost use Rattle.draw_lines.specs.Texts.{code_text, choice_text, choices_text, phase_text, next_text, refusal_text, move_text, ball_text, reply_text, opening_text};
+ghost use Rattle.draw_lines.specs.Texts.{code_text, choice_text, choices_text, phase_text};
+ghost use Rattle.draw_lines.specs.Texts.{next_text, refusal_text, move_text, ball_text};
+ghost use Rattle.draw_lines.specs.Texts.{reply_text, opening_text};
 
 use draw_state::{NextLine, Refusal, Reply};
 use draw_tables::{Choice, Move, Phase};
@@ -39,6 +43,7 @@ pub fn opening_text(alloc: Global, file: &DrawFile, next: &NextLine) -> Result<V
     Ok(text)
 }
 
+/// The line of a refusal.
 fn refusal_text(refusal: Refusal) -> &'static str
     ensures { result.now ≡ refusal_text refusal }
 {
@@ -74,9 +79,11 @@ fn add_move(text: &mut Vec<u8>, file: &DrawFile, added: Move) -> Result<(), Allo
     }
 }
 
+/// Writes the line of a runner-up's ball.
 fn add_drawn(text: &mut Vec<u8>, file: &DrawFile, team: TeamId) -> Result<(), AllocError>
     requires team { IsTeamOf file.now team }
-    ensures { OnOk result (text.new.items ≡ text.old.items ++ codes "drawn " ++ code_text file.now team ++ codes "\n") }
+    ensures { OnOk result (text.new.items
+        ≡ text.old.items ++ move_text file.now (MoveValue.Drawn team)) }
 {
     text.extend_from_slice(b"drawn ")?;
     text.extend_from_slice(code_text(file, team).as_bytes())?;
@@ -84,6 +91,7 @@ fn add_drawn(text: &mut Vec<u8>, file: &DrawFile, team: TeamId) -> Result<(), Al
     Ok(())
 }
 
+/// Writes the line of a pair.
 fn add_paired(
     text: &mut Vec<u8>,
     file: &DrawFile,
@@ -92,7 +100,8 @@ fn add_paired(
 ) -> Result<(), AllocError>
     requires runner { IsTeamOf file.now runner }
     requires winner { IsTeamOf file.now winner }
-    ensures { OnOk result (text.new.items ≡ text.old.items ++ codes "paired " ++ code_text file.now runner ++ codes " " ++ code_text file.now winner ++ codes "\n") }
+    ensures { OnOk result (text.new.items
+        ≡ text.old.items ++ move_text file.now (MoveValue.Paired runner winner)) }
 {
     text.extend_from_slice(b"paired ")?;
     text.extend_from_slice(code_text(file, runner).as_bytes())?;

@@ -4,7 +4,7 @@ ghost use Rattle.draw_lines.specs.Words.{command_of, is_first_digit, word_of};
 use draw_state::{Command, Word};
 use team_files::Code;
 
-/// The command that a line stands for; `Bad` where it is none. Takes no memory.
+/// The command that a line stands for; `Bad` where it is none.
 pub fn read_line(line: &[u8]) -> Command
     ensures { result ≡ command_of line.now }
 {

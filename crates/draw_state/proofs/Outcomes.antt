@@ -14,7 +14,7 @@ use Rattle.draw_state.specs.declared.commands.Action.{Action}
 use Rattle.draw_state.specs.declared.replies.Refusal.{Refusal}
 use Rattle.draw_state.specs.Commands.{choice_of, IsBallOf, most_commands, Refuses, causes, IsAcceptedCommand, IsRefusedCommand, IsOutcome}
 use Rattle.draw_state.specs.Laws.{OneOutcome}
-use Rattle.draw_state.proofs.Refusals.{first_holds, one_first, one_choice, one_action, for_limit, for_form, for_unknown, for_complete, for_phase, for_excluded, accepted}
+use Rattle.draw_state.proofs.Refusals.{first_holds, one_first, one_action, for_limit, for_form, for_unknown, for_complete, for_phase, for_excluded, accepted}
 
 -- ---- whether a choice stands in a list
 

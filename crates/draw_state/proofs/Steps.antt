@@ -1,12 +1,12 @@
 -- Steps and runs: they lead from states to states, name teams of the file, and are functions of the commands.
-use Rattle.std.proofs.Common.{◌≡◌, ◌≢◌, ℕ, ◌+◌, ◌<◌, List, [], ◌∷◌, ◌++◌, Option, Some, Result, Ok, Err, inl, inr, refl, sym, ap, subst, ◌∙◌, arith}
+use Rattle.std.proofs.Common.{◌≡◌, ◌≢◌, ℕ, ◌+◌, ◌<◌, List, [], ◌∷◌, ◌++◌, Result, Ok, Err, inl, inr, refl, sym, ap, subst, ◌∙◌, arith}
 use Rattle.rule_sets.specs.Files.{DrawFile}
 use Rattle.draw_tables.specs.declared.moves.Move.{Move}
 use Rattle.draw_tables.specs.declared.moves.Choice.{Choice}
 use Rattle.draw_tables.specs.declared.moves.Phase.{Phase}
 use Rattle.draw_tables.specs.Names.{AreFileMoves, IsFilePhase}
-use Rattle.draw_tables.specs.States.{phase_of, candidates, move_in, IsMoveOf, IsState}
-use Rattle.draw_tables.specs.Offers.{IsOffer, IsPossible, IsCompletable}
+use Rattle.draw_tables.specs.States.{phase_of, IsMoveOf, IsState}
+use Rattle.draw_tables.specs.Offers.{IsOffer, IsCompletable}
 use Rattle.draw_tables.proofs.StateMoves.{state_and_move}
 use Rattle.draw_tables.proofs.NamedTeams.{states_name_teams}
 use Rattle.draw_tables.proofs.OfferLaws.{one_offer}
@@ -16,7 +16,7 @@ use Rattle.draw_state.specs.declared.replies.NextLine.{NextLine}
 use Rattle.draw_state.specs.declared.replies.Refusal.{Refusal}
 use Rattle.draw_state.specs.declared.replies.Reply.{Reply}
 use Rattle.draw_state.specs.Commands.{most_commands, Refuses, causes, IsAcceptedCommand, IsRefusedCommand, IsOutcome, AddsOfItself, Adds}
-use Rattle.draw_state.specs.Runs.{Reached, IsNextLine, IsStep, IsStepBelowLimit, IsRun}
+use Rattle.draw_state.specs.Runs.{Reached, IsNextLine, IsStep, IsRun}
 use Rattle.draw_state.specs.Replies.{WaitsForBall, IsFileNextLine, IsFileReply}
 use Rattle.draw_state.specs.Laws.{StatesStay, StepsBelowLimit, RepliesNameTeams, OneRun, OfferedIsAccepted}
 use Rattle.draw_state.proofs.Refusals.{one_choice, one_first}

@@ -1,8 +1,9 @@
 ghost use Rattle.std.specs.Prelude.{◌≡◌, ◌↔◌, IfOk, IfErr, IsTrue};
 ghost use Rattle.draw_tables.specs.Offers.{IsOffer};
 ghost use Rattle.draw_tables.specs.Lists.{IsAmong};
-ghost use Rattle.draw_state.specs.Commands.{choice_of, IsAcceptedCommand, IsRefusedCommand};
+ghost use Rattle.draw_state.specs.Commands.{choice_of};
 ghost use Rattle.draw_state.specs.Runs.{IsNextLine};
+ghost use Rattle.draw_state.specs.State.{Accepts, RefusesFor};
 
 use crate::commands::{Action, Command, Word};
 use crate::lists::Choices;
@@ -17,7 +18,6 @@ pub const MOST_COMMANDS: u64 = 4096;
 
 /// What is said of a command in a state whose offer is `offered`, where so many commands were
 /// `answered` before: what it does, exactly where nothing refuses it, or the first cause that does.
-/// Takes no memory.
 pub fn judge_command(
     state: &State,
     offered: &[Choice],
@@ -25,8 +25,8 @@ pub fn judge_command(
     command: Command,
 ) -> Result<Action, Refusal>
     requires { IsOffer state.now.file state.now.moves offered.now }
-    ensures accepted { IfOk result (λ action. IsAcceptedCommand state.now.file state.now.moves answered command action) }
-    ensures refused { IfErr result (λ refusal. IsRefusedCommand state.now.file state.now.moves answered command refusal) }
+    ensures accepted { IfOk result (λ action. Accepts state.now answered command action) }
+    ensures refused { IfErr result (λ refusal. RefusesFor state.now answered command refusal) }
 {
     if answered >= MOST_COMMANDS {
         return Err(Refusal::Limit);
@@ -63,15 +63,10 @@ fn choice_of(file: &DrawFile, word: Word) -> Option<Choice>
 fn has_choice(choices: &[Choice], choice: Choice) -> bool
     ensures { IsTrue result ↔ IsAmong choices.now choice }
 {
-    for other in choices {
-        if choice == *other {
-            return true;
-        }
-    }
-    false
+    choices.iter().any(|other| *other == choice)
 }
 
-/// What comes next in a state whose offer this is. Takes no memory.
+/// What comes next in a state whose offer this is.
 pub fn next_line(state: &State, offered: Choices) -> NextLine
     requires { IsOffer state.now.file state.now.moves offered }
     ensures { IsNextLine state.now.file state.now.moves result }

@@ -1,5 +1,8 @@
-//! States of a draw, and its commands and replies: a state takes only candidates' moves; the accepted
-//! choice or the first refusal of a command, and runs of commands.
+//! States of a draw, and its commands and replies: a state takes only candidates' moves; the
+//! accepted choice or the first refusal of a command, and runs of commands.
+//!
+//! A call that answers `NoMemory` does so only where memory ran out; every other call takes no
+//! memory. A law does nothing: its clause is what it is for.
 #![tactic(auto)]
 
 mod commands;

@@ -21,21 +21,21 @@ impl Model for Moves {
 }
 
 impl Moves {
-    /// The moves of a vector. Takes no memory.
+    /// The moves of a vector.
     pub fn new(moves: Vec<Move>) -> Moves
         ensures { result ≡ moves.items }
     {
         Moves { moves }
     }
 
-    /// The moves in order. Takes no memory.
+    /// The moves in order.
     pub fn as_slice(&self) -> &[Move]
         ensures { result.now ≡ self.now }
     {
         self.moves.as_slice()
     }
 
-    /// An equal list. The only error is want of memory.
+    /// An equal list.
     pub fn clone_in(&self, alloc: Global) -> Result<Moves, NoMemory>
         ensures { IfOk result (λ m. m ≡ self.now) }
     {
@@ -61,21 +61,21 @@ impl Model for Choices {
 }
 
 impl Choices {
-    /// The choices of a vector. Takes no memory.
+    /// The choices of a vector.
     pub fn new(choices: Vec<Choice>) -> Choices
         ensures { result ≡ choices.items }
     {
         Choices { choices }
     }
 
-    /// The choices in order. Takes no memory.
+    /// The choices in order.
     pub fn as_slice(&self) -> &[Choice]
         ensures { result.now ≡ self.now }
     {
         self.choices.as_slice()
     }
 
-    /// An equal list. The only error is want of memory.
+    /// An equal list.
     pub fn clone_in(&self, alloc: Global) -> Result<Choices, NoMemory>
         ensures { IfOk result (λ c. c ≡ self.now) }
     {

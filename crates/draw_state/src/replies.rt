@@ -34,7 +34,7 @@ pub enum NextLine {
 }
 
 impl NextLine {
-    /// An equal line. The only error is want of memory.
+    /// An equal line.
     pub fn clone_in(&self, alloc: Global) -> Result<NextLine, NoMemory>
         ensures { IfOk result (λ n. n ≡ self.now) }
     {
@@ -59,7 +59,7 @@ pub enum Reply {
 }
 
 impl Reply {
-    /// An equal reply. The only error is want of memory.
+    /// An equal reply.
     pub fn clone_in(&self, alloc: Global) -> Result<Reply, NoMemory>
         ensures { IfOk result (λ r. r ≡ self.now) }
     {

@@ -1,4 +1,4 @@
-ghost use Rattle.std.specs.Prelude.{◌≡◌, ◌↔◌, [], ◌∷◌, ◌++◌, IfOk, OnOk, OnErr, IfErr, IsTrue, MatchOption, Some};
+ghost use Rattle.std.specs.Prelude.{◌≡◌, ◌≢◌, ◌↔◌, [], ◌∷◌, ◌++◌, IfOk, OnOk, OnErr, IfErr, IsTrue, MatchOption, Some};
 ghost use Rattle.draw_tables.specs.declared.moves.Choice.{Choice as ChoiceValue};
 ghost use Rattle.draw_tables.specs.Names.{AreFileChoices};
 ghost use Rattle.draw_tables.specs.Lists.{IsAmong};
@@ -36,12 +36,12 @@ impl Model for State {
 pub enum StateFault {
     /// The move is no candidate's in the state's phase.
     WrongPhase,
-    /// Want of memory.
+    /// Out of memory.
     NoMemory,
 }
 
 impl State {
-    /// The state of a draw file without moves. The only error is want of memory.
+    /// The state of a draw file without moves.
     pub fn start(alloc: Global, file: &DrawFile) -> Result<State, NoMemory>
         ensures file { IfOk result (λ s. s.file ≡ file.now) }
         ensures moves { IfOk result (λ s. s.moves ≡ []) }
@@ -53,7 +53,7 @@ impl State {
         })
     }
 
-    /// The draw file. Takes no memory.
+    /// The draw file.
     pub fn file(&self) -> &DrawFile
         ensures file { result.now ≡ self.now.file }
         ensures state { IsState self.now.file self.now.moves }
@@ -61,21 +61,21 @@ impl State {
         &self.file
     }
 
-    /// The moves so far, in order. Takes no memory.
+    /// The moves so far, in order.
     pub fn moves(&self) -> &[Move]
         ensures { result.now ≡ self.now.moves }
     {
         self.moves.as_slice()
     }
 
-    /// What comes next. Takes no memory.
+    /// What comes next.
     pub fn phase(&self) -> Phase
         ensures { result ≡ phase_of self.now.file self.now.moves }
     {
         phase_of(&self.file, &self.moves)
     }
 
-    /// The candidates of the phase, in order. The only error is want of memory.
+    /// The candidates of the phase, in order.
     pub fn candidates(&self, alloc: Global) -> Result<Vec<Choice>, NoMemory>
         ensures candidates { IfOk result (λ v. v.items ≡ candidates self.now.file self.now.moves) }
         ensures of_file { IfOk result (λ v. AreFileChoices self.now.file v.items) }
@@ -84,21 +84,23 @@ impl State {
     }
 
     /// The move that a choice adds. `None` exactly where the choice is no candidate of the phase.
-    /// Takes no memory.
     pub fn move_of(&self, choice: Choice) -> Option<Move>
         ensures { MatchOption result
-            (IsAmong (candidates self.now.file self.now.moves) choice → ⊥)
+            (¬ IsAmong (candidates self.now.file self.now.moves) choice)
             (λ m. IsMoveOf self.now.file self.now.moves choice m) }
     {
         move_of(&self.file, &self.moves, choice)
     }
 
-    /// Adds a move. `WrongPhase` comes exactly where it is no candidate's in the phase; after an
-    /// error the state is as before.
+    /// Adds a move. `WrongPhase` comes exactly where it is no candidate's in the phase, `NoMemory`
+    /// only where it is one; after an error the state is as before.
     pub fn apply(&mut self, alloc: Global, next: Move) -> Result<(), StateFault>
         ensures added { OnOk result (self.new.moves ≡ self.old.moves ++ next ∷ []) }
         ensures candidate { OnOk result (IsCandidateMove self.old.file self.old.moves next) }
-        ensures wrong_phase { IfErr result (λ f. f ≡ StateFault.WrongPhase → IsCandidateMove self.old.file self.old.moves next → ⊥) }
+        ensures wrong_phase { IfErr result (λ f. f ≡ StateFault.WrongPhase
+            → ¬ IsCandidateMove self.old.file self.old.moves next) }
+        ensures no_memory { IfErr result (λ f. f ≡ StateFault.NoMemory
+            → IsCandidateMove self.old.file self.old.moves next) }
         ensures file { self.new.file ≡ self.old.file }
         ensures err { OnErr result (self.new ≡ self.old) }
     {
@@ -113,7 +115,7 @@ impl State {
     }
 
     /// Takes off the last ball's move and gives it. `None` exactly where there are no moves. In a
-    /// pairing each ball adds one move. Takes no memory.
+    /// pairing each ball adds one move.
     pub fn undo(&mut self) -> Option<Move>
         ensures moves { MatchOption result
             ((self.old.moves ≡ []) × (self.new.moves ≡ []))
@@ -123,7 +125,7 @@ impl State {
         self.moves.pop()
     }
 
-    /// An equal state. The only error is want of memory.
+    /// An equal state.
     pub fn clone_in(&self, alloc: Global) -> Result<State, NoMemory>
         ensures { IfOk result (λ s. s ≡ self.now) }
     {
@@ -148,7 +150,7 @@ fn is_next(file: &DrawFile, moves: &[Move], next: Move) -> bool
 /// The choice whose move this is in a phase.
 fn choice_of_move(phase: Phase, next: Move) -> Option<Choice>
     ensures { MatchOption result
-        ((c : ChoiceValue) → move_in phase c ≡ Some next → ⊥)
+        ((c : ChoiceValue) → move_in phase c ≢ Some next)
         (λ choice. (c : ChoiceValue) → (move_in phase c ≡ Some next) ↔ (c ≡ choice)) }
 {
     match (phase, next) {

@@ -8,7 +8,7 @@ use Rattle.draw_state.specs.declared.commands.Command.{Command}
 use Rattle.draw_state.specs.declared.commands.Action.{Action}
 use Rattle.draw_state.specs.declared.replies.NextLine.{NextLine}
 use Rattle.draw_state.specs.declared.replies.Reply.{Reply}
-use Rattle.draw_state.specs.Commands.{IsAcceptedCommand, Adds}
+use Rattle.draw_state.specs.Commands.{IsAcceptedCommand}
 use Rattle.draw_state.specs.Runs.{IsNextLine, IsStep}
 use Rattle.draw_state.specs.Replies.{IsFileReply}
 use Rattle.draw_state.proofs.Steps.{adds_move, added_stay, last_named, next_named}

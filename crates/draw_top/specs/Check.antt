@@ -32,7 +32,8 @@ TellsBroken file lines text = (table : Table) × AreTableLine file lines table
 
 -- The text tells that the lines are not exactly one line that is the text of a table of the file.
 abbrev pub TellsNoTable : DrawFile → List (List ℕ) → List ℕ → Type 0
-TellsNoTable file lines text = ((table : Table) → AreTableLine file lines table → ⊥) × (text ≡ codes "not a table\n")
+TellsNoTable file lines text =
+    ((table : Table) → ¬ AreTableLine file lines table) × (text ≡ codes "not a table\n")
 
 -- ---- what is said of an input
 

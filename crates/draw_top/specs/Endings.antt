@@ -4,7 +4,7 @@ use Rattle.std.specs.Prelude.{◌≡◌, ℕ, ◌<◌, ◌≤◌, List, length, 
 use Rattle.std.specs.Io.KnownBytes.{Appends, Keeps, IsAtEnd}
 use Rattle.draw_ports.specs.Causes.{Rose, AppendsSome}
 use Rattle.draw_top.specs.declared.status.Status.{Status}
-use Rattle.draw_top.specs.Outside.{Outside, Gains, GainsSome, FitsLimit, PassesLimit}
+use Rattle.draw_top.specs.Outside.{Outside, NothingFailed, Gains, GainsSome, FitsLimit, PassesLimit}
 use Rattle.draw_top.specs.Follow.{HasFile, IsAnswerOf, IsRefusalOf}
 use Rattle.draw_top.specs.Check.{IsLegalInput, IsApprovalOf, IsObjectionTo}
 use Rattle.draw_top.specs.Modes.{Program, Mode, AsksFor, usage_line, limit_of, Follow, Judge}
@@ -92,7 +92,7 @@ EndsUnasked program status old new = ⊥
 pub record Ends (program : Program) (status : Status) (words : List (List ℕ)) (old new : Outside)
     : Type 0 where
   pub asked : (mode : Mode) → AsksFor program words mode → EndsAs mode status old new
-  pub unasked : ((mode : Mode) → AsksFor program words mode → ⊥)
+  pub unasked : ((mode : Mode) → ¬ AsksFor program words mode)
       → EndsUnasked program status old new
 
 -- ---- which status it is, where nothing fails
@@ -101,12 +101,23 @@ pub record Ends (program : Program) (status : Status) (words : List (List ℕ)) 
 abbrev pub IsDecided : Mode → List ℕ → Status → Type 0
 IsDecided Follow input Status.Ok = (length input ≤ limit_of Follow) × HasFile input
 IsDecided Judge input Status.Ok = (length input ≤ limit_of Judge) × IsLegalInput input
-IsDecided mode input Status.FileRefused = (length input ≤ limit_of mode) × (HasFile input → ⊥)
+IsDecided mode input Status.FileRefused = (length input ≤ limit_of mode) × (¬ HasFile input)
 IsDecided mode input Status.TooLong = limit_of mode < length input
 IsDecided Judge input Status.NotValid =
-    (length input ≤ limit_of Judge) × HasFile input × (IsLegalInput input → ⊥)
+    (length input ≤ limit_of Judge) × HasFile input × (¬ IsLegalInput input)
 IsDecided mode input status = ⊥
 
 -- The source tells that it held an input whose bytes decide for the status.
 abbrev pub CallsFor : Mode → Option (List ℕ) → Status → Type 0
 CallsFor mode left status = IsSomeAnd left (λ input. IsDecided mode input status)
+
+-- Where nothing fails, a call of the mode ends with the status that the bytes decide for, or no
+-- memory was left.
+abbrev pub EndsAsDecided : Mode → Status → Outside → Outside → Type 0
+EndsAsDecided mode result old new = (status : Status) → CallsFor mode old.left status
+    → NothingFailed old new → (result ≡ status) ⊎ (result ≡ Status.NoMemory)
+
+-- The same of a call of the program, in each mode that its words ask for.
+abbrev pub IsComplete : Program → Status → List (List ℕ) → Outside → Outside → Type 0
+IsComplete program result words old new = (mode : Mode) → AsksFor program words mode
+    → EndsAsDecided mode result old new

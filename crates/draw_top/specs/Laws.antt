@@ -12,4 +12,4 @@ AnswerExists = (input : List ℕ) → HasFile input → (text : List ℕ) × IsA
 
 -- No input is answered and refused.
 abbrev pub AnswerOrRefusal : Type 0
-AnswerOrRefusal = (input text line : List ℕ) → IsAnswerOf input text → IsRefusalOf input line → ⊥
+AnswerOrRefusal = (input text line : List ℕ) → IsAnswerOf input text → ¬ IsRefusalOf input line

@@ -22,7 +22,7 @@ outside left wrote read_faults write_faults =
 -- Neither the source nor the sink failed between the two moments.
 abbrev pub NothingFailed : Outside → Outside → Type 0
 NothingFailed old new =
-    (Rose old.read_faults new.read_faults → ⊥) × (Rose old.write_faults new.write_faults → ⊥)
+    (¬ Rose old.read_faults new.read_faults) × (¬ Rose old.write_faults new.write_faults)
 
 -- ---- of what the source held, where it tells it
 

@@ -1,8 +1,8 @@
 //! Calls that `run_draw` makes, each by itself on the round of 16 of 2021/22: in its file the winners
 //! stand at the places 0 to 7 and the runners-up at 8 to 15.
 
-use crate::tests::{ROUND_OF_16, TWO_TEAMS, file_of, fine, input, listed, words};
-use crate::turn::offer_of;
+use crate::tests::{ROUND_OF_16, TWO_TEAMS, file_of, fine, input, listed, start, turn_of, words};
+use crate::turn::{Turn, offer_of};
 use crate::{Status, follow};
 use draw_lines::opening_text;
 use draw_ports::{MemorySink, MemorySource};
@@ -14,6 +14,8 @@ use rule_sets::DrawFile;
 use std::alloc::{AllocError, Global};
 use std::test::Fail;
 use team_files::{Code, TeamId};
+
+const REAL_MADRID: TeamId = TeamId(3);
 
 const VILLARREAL: TeamId = TeamId(13);
 
@@ -32,13 +34,19 @@ fn is_pot(alloc: Global, file: &DrawFile, pot: u32, first: u32) -> Result<bool, 
     Ok(teams.len() == 8)
 }
 
+/// Whether pot 1 has the winners, and pot 2 the runners-up.
+fn are_pots(alloc: Global, file: &DrawFile) -> Result<bool, AllocError> {
+    Ok(is_pot(alloc, file, 1, 0)? && is_pot(alloc, file, 2, 8)?)
+}
+
 /// Pot 1 has the winners, pot 2 the runners-up.
 #[test]
 fn pots_have_their_teams(rt: HostRuntime) -> Result<(), Fail> {
     let alloc = rt.alloc();
     let file = file_of(alloc, ROUND_OF_16)?;
-    assert!(rt; is_pot(alloc, &file, 1, 0)?);
-    assert!(rt; is_pot(alloc, &file, 2, 8)?);
+    let pots = are_pots(alloc, &file);
+    drop(file);
+    assert!(rt; pots?);
     Ok(())
 }
 
@@ -53,30 +61,42 @@ fn meet(file: &DrawFile, runner: TeamId, winner: TeamId) -> bool {
 #[test]
 fn rules_forbid_pairs(rt: HostRuntime) -> Result<(), Fail> {
     let file = file_of(rt.alloc(), ROUND_OF_16)?;
-    assert!(rt; meet(&file, VILLARREAL, JUVENTUS));
-    assert!(rt; !meet(&file, VILLARREAL, MANCHESTER_UNITED));
-    assert!(rt; !meet(&file, VILLARREAL, TeamId(3)));
+    let with_juventus = meet(&file, VILLARREAL, JUVENTUS);
+    let with_manchester = meet(&file, VILLARREAL, MANCHESTER_UNITED);
+    let with_madrid = meet(&file, VILLARREAL, REAL_MADRID);
+    drop(file);
+    assert!(rt; with_juventus);
+    assert!(rt; !with_manchester);
+    assert!(rt; !with_madrid);
     Ok(())
+}
+
+/// Whether after Villarreal's ball its opponent comes, and any winner is a candidate with its move,
+/// and no runner-up.
+fn has_candidates(file: &DrawFile) -> bool {
+    let moves = [Move::Drawn(VILLARREAL)];
+    let phase = phase_of(file, &moves);
+    let winner = Choice::Team(MANCHESTER_UNITED);
+    let added = Move::Paired(VILLARREAL, MANCHESTER_UNITED);
+    phase == Phase::Opponent { runner: VILLARREAL }
+        && is_candidate(file, &moves, winner)
+        && !is_candidate(file, &moves, Choice::Team(TeamId(8)))
+        && move_of(file, &moves, winner) == Some(added)
+        && move_in(phase, winner) == Some(added)
+        && move_in(Phase::Complete, winner).is_none()
 }
 
 /// After Villarreal's ball its opponent comes: any winner is a candidate, and no runner-up.
 #[test]
 fn candidates_have_moves(rt: HostRuntime) -> Result<(), Fail> {
     let file = file_of(rt.alloc(), ROUND_OF_16)?;
-    let moves = [Move::Drawn(VILLARREAL)];
-    let phase = phase_of(&file, &moves);
-    let winner = Choice::Team(MANCHESTER_UNITED);
-    let added = Move::Paired(VILLARREAL, MANCHESTER_UNITED);
-    assert!(rt; phase == Phase::Opponent { runner: VILLARREAL });
-    assert!(rt; is_candidate(&file, &moves, winner));
-    assert!(rt; !is_candidate(&file, &moves, Choice::Team(TeamId(8))));
-    assert!(rt; move_of(&file, &moves, winner) == Some(added));
-    assert!(rt; move_in(phase, winner) == Some(added));
-    assert!(rt; move_in(Phase::Complete, winner).is_none());
+    let found = has_candidates(&file);
+    drop(file);
+    assert!(rt; found);
     Ok(())
 }
 
-/// What is said of a ball with the code, after Villarreal's ball and so many commands.
+/// What is said of a ball with the code in a state, after so many commands.
 fn said_of(
     alloc: Global,
     state: &State,
@@ -91,22 +111,23 @@ fn said_of(
     Ok(judge_command(state, &offered, answered, command))
 }
 
-/// The state after Villarreal's ball.
-fn after_villarreal(alloc: Global) -> Result<State, Fail> {
-    let file = file_of(alloc, ROUND_OF_16)?;
-    let mut state = State::start(alloc, &file)?;
-    let drawn = state.apply(alloc, Move::Drawn(VILLARREAL));
-    match drawn {
-        Ok(()) => Ok(state),
-        Err(_) => Err(Fail::from(AllocError)),
-    }
+/// What is said of a ball with the code where Villarreal's ball was drawn, after so many commands.
+fn said_after_villarreal(
+    alloc: Global,
+    answered: u64,
+    code: &str,
+) -> Result<Result<Action, Refusal>, Fail> {
+    let mut state = start(alloc, ROUND_OF_16)?;
+    let _ = state.apply(alloc, Move::Drawn(VILLARREAL));
+    let said = said_of(alloc, &state, answered, code);
+    drop(state);
+    Ok(said?)
 }
 
 /// A ball is accepted, or refused for the first cause that holds.
 #[test]
 fn balls_are_judged(rt: HostRuntime) -> Result<(), Fail> {
     let alloc = rt.alloc();
-    let state = after_villarreal(alloc)?;
     for (answered, code, said) in [
         (0, "JUV", Ok(Action::Ball(Choice::Team(JUVENTUS)))),
         (4095, "JUV", Ok(Action::Ball(Choice::Team(JUVENTUS)))),
@@ -116,41 +137,49 @@ fn balls_are_judged(rt: HostRuntime) -> Result<(), Fail> {
         (0, "PSG", Err(Refusal::Phase)),
         (0, "MUN", Err(Refusal::Excluded)),
     ] {
-        assert!(rt; said_of(alloc, &state, answered, code)? == said, "{code}");
+        assert!(rt; said_after_villarreal(alloc, answered, code)? == said, "{code}");
     }
     Ok(())
 }
 
-/// The opening of the draw of two teams, from the next line of its first state.
-fn opening(alloc: Global) -> Result<Vec<u8>, Fail> {
-    let file = file_of(alloc, TWO_TEAMS)?;
-    let turn = crate::turn::Turn::open(alloc, &file)?;
+/// The opening of a turn, from what comes next.
+fn opening_of(alloc: Global, turn: &Turn) -> Result<Vec<u8>, AllocError> {
     let next = turn.next(alloc)?;
-    Ok(opening_text(alloc, turn.file(), &next)?)
+    opening_text(alloc, turn.file(), &next)
+}
+
+/// The opening of the draw of a head.
+fn opening(alloc: Global, head: &str) -> Result<Vec<u8>, Fail> {
+    let turn = turn_of(alloc, head)?;
+    let text = opening_of(alloc, &turn);
+    drop(turn);
+    Ok(text?)
 }
 
 /// The opening tells the kind, the number of teams and what comes next.
 #[test]
 fn the_opening_is_told(rt: HostRuntime) -> Result<(), Fail> {
-    let text = opening(rt.alloc())?;
+    let text = opening(rt.alloc(), TWO_TEAMS)?;
     assert!(rt; text.as_slice() == b"draw pairing 2 teams\nnext runner-up: BBB\n".as_slice());
     Ok(())
+}
+
+/// Whether `follow` ends well over a head and lines, and the sink then holds the answer.
+fn follow_gives(alloc: Global, head: &str, lines: &str, answer: &[u8]) -> Result<bool, AllocError> {
+    let asked = words(alloc, &["follow"])?;
+    let text = input(alloc, head, lines)?;
+    let bytes = Vec::from_slice(alloc, text.as_bytes())?;
+    let mut source = MemorySource::new(bytes, 16, listed(alloc, None)?);
+    let mut sink = MemorySink::new(alloc, fine().room, listed(alloc, None)?)?;
+    let status = follow(alloc, &asked, &mut source, &mut sink);
+    Ok(status == Status::Ok && sink.bytes() == answer)
 }
 
 /// `follow` answers as `run_draw` does, without a runtime.
 #[test]
 fn follow_needs_no_runtime(rt: HostRuntime) -> Result<(), Fail> {
-    let alloc = rt.alloc();
-    let asked = words(alloc, &["follow"])?;
-    let text = input(alloc, TWO_TEAMS, "ball BBB\n")?;
-    let bytes = Vec::from_slice(alloc, text.as_bytes())?;
-    let mut source = MemorySource::new(bytes, 16, listed(alloc, None)?);
-    let mut sink = MemorySink::new(alloc, fine().room, listed(alloc, None)?)?;
-    let status = follow(alloc, &asked, &mut source, &mut sink);
-    assert!(rt; status == Status::Ok);
-    assert!(rt;
-        sink.bytes()
-            == b"draw pairing 2 teams\nnext runner-up: BBB\ndrawn BBB\nnext opponent BBB: AAA\n".as_slice()
-    );
+    let answer =
+        b"draw pairing 2 teams\nnext runner-up: BBB\ndrawn BBB\nnext opponent BBB: AAA\n";
+    assert!(rt; follow_gives(rt.alloc(), TWO_TEAMS, "ball BBB\n", answer)?);
     Ok(())
 }

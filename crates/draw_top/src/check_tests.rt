@@ -27,11 +27,25 @@ fn run(
     Ok((status, text))
 }
 
+/// Whether a run of `judge` over a head and lines ends with the status, and the sink then holds the
+/// text.
+fn gives(
+    alloc: Global,
+    head: &str,
+    lines: &str,
+    status: Status,
+    wanted: &str,
+) -> Result<bool, AllocError> {
+    let judge = words(alloc, &["judge"])?;
+    let text = input(alloc, head, lines)?;
+    let (ended, wrote) = run(alloc, &judge, text.as_bytes(), fine())?;
+    Ok(ended == status && wrote.as_str() == wanted)
+}
+
 /// Tables of the round of 16: the one that was drawn, and others.
 #[test]
 fn tables_are_judged(rt: HostRuntime) -> Result<(), Fail> {
     let alloc = rt.alloc();
-    let judge = words(alloc, &["judge"])?;
     for (lines, status, wanted) in [
         ("RMA MUN MCI LIV AJX JUV BAY LIL\n", Status::Ok, "legal\n"),
         ("RMA MUN MCI LIV AJX JUV BAY LIL", Status::Ok, "legal\n"),
@@ -78,10 +92,7 @@ fn tables_are_judged(rt: HostRuntime) -> Result<(), Fail> {
         ),
         ("", Status::NotValid, "not a table\n"),
     ] {
-        let text = input(alloc, ROUND_OF_16, lines)?;
-        let (ended, wrote) = run(alloc, &judge, text.as_bytes(), fine())?;
-        assert_eq!(rt; ended, status, "{lines}");
-        assert_eq!(rt; wrote.as_str(), wanted, "{lines}");
+        assert!(rt; gives(alloc, ROUND_OF_16, lines, status, wanted)?, "{lines}");
     }
     Ok(())
 }
@@ -90,7 +101,6 @@ fn tables_are_judged(rt: HostRuntime) -> Result<(), Fail> {
 #[test]
 fn inputs_of_tables_are_read(rt: HostRuntime) -> Result<(), Fail> {
     let alloc = rt.alloc();
-    let judge = words(alloc, &["judge"])?;
     let forbidden =
         r#"{"kind":"pairing","teams":[{"code":"AAA","pot":1,"tags":["X"],"group":"A"},{"code":"BBB","pot":2,"tags":["Y"],"group":"B"}],"pairs":[["AAA","BBB"]]}"#;
     for (head, lines, status, wanted) in [
@@ -104,19 +114,30 @@ fn inputs_of_tables_are_read(rt: HostRuntime) -> Result<(), Fail> {
         ),
         ("", "", Status::FileRefused, "file refused 1 NotJson\n"),
     ] {
-        let text = input(alloc, head, lines)?;
-        let (ended, wrote) = run(alloc, &judge, text.as_bytes(), fine())?;
-        assert_eq!(rt; ended, status, "{head}");
-        assert_eq!(rt; wrote.as_str(), wanted, "{head}");
+        assert!(rt; gives(alloc, head, lines, status, wanted)?, "{head}");
     }
     Ok(())
+}
+
+/// Whether a run of these words over a legal table of two teams, the outside as it is told, ends
+/// with the status, and the sink then holds the text.
+fn ends_with(
+    alloc: Global,
+    list: &[&str],
+    outside: Outside,
+    status: Status,
+    wanted: &str,
+) -> Result<bool, AllocError> {
+    let list = words(alloc, list)?;
+    let text = input(alloc, TWO_TEAMS, "AAA\n")?;
+    let (ended, wrote) = run(alloc, &list, text.as_bytes(), outside)?;
+    Ok(ended == status && wrote.as_str() == wanted)
 }
 
 /// Words that are not `judge` alone, sources and sinks that fail.
 #[test]
 fn statuses_of_a_check_have_their_causes(rt: HostRuntime) -> Result<(), Fail> {
     let alloc = rt.alloc();
-    let text = input(alloc, TWO_TEAMS, "AAA\n")?;
     let judge: &[&str] = &["judge"];
     for (list, most, source_fails, room, sink_fails, status, wrote) in [
         (judge, 1usize, None, 4096usize, None, Status::Ok, "legal\n"),
@@ -160,10 +181,7 @@ fn statuses_of_a_check_have_their_causes(rt: HostRuntime) -> Result<(), Fail> {
             room,
             sink_fails,
         };
-        let list = words(alloc, list)?;
-        let (ended, text) = run(alloc, &list, text.as_bytes(), outside)?;
-        assert_eq!(rt; ended, status, "{room}");
-        assert_eq!(rt; text.as_str(), wrote, "{room}");
+        assert!(rt; ends_with(alloc, list, outside, status, wrote)?, "{room}");
     }
     Ok(())
 }

@@ -1,19 +1,18 @@
 //! The top call of the program `drawcheck`: what the written rules say of a table.
 
-ghost use Rattle.std.specs.Prelude.{◌≡◌, ◌∷◌, [], ◌⊎◌, ◌↔◌, List, ℕ, IfOk, IsTrue, MatchOption};
+ghost use Rattle.std.specs.Prelude.{◌≡◌, ◌≢◌, ◌∷◌, [], ◌↔◌, List, ℕ, IfOk, IsTrue, MatchOption};
 ghost use Rattle.draw_tables.specs.declared.table.Table.{Table as TableValue};
 ghost use Rattle.draw_lines.specs.Inputs.{lines_of};
-ghost use Rattle.draw_top.specs.declared.status.Status.{Status as StatusValue};
-ghost use Rattle.draw_top.specs.Outside.{outside, NothingFailed};
+ghost use Rattle.draw_top.specs.Outside.{outside};
 ghost use Rattle.draw_top.specs.Follow.{words_of};
 ghost use Rattle.draw_top.specs.Check.{AreTableLine, IsJudge, broken_line};
 ghost use Rattle.draw_top.specs.Check.{GainsApproval, GainsObjection};
 ghost use Rattle.draw_top.specs.Reports.{IsTableReport, IsReportOf};
-ghost use Rattle.draw_top.specs.Modes.{Mode, AsksFor, Drawcheck, Judge};
-ghost use Rattle.draw_top.specs.Endings.{EndsAs, Ends, CallsFor};
+ghost use Rattle.draw_top.specs.Modes.{AsksFor, Drawcheck, Judge};
+ghost use Rattle.draw_top.specs.Endings.{EndsAs, Ends, EndsAsDecided, IsComplete};
 
-use crate::endings::{finish, read_input};
-use crate::heads::{INPUT_LIMIT, refusal_line};
+use crate::endings::{INPUT_LIMIT, finish, read_input};
+use crate::faults::refusal_line;
 use crate::status::Status;
 use draw_lines::{first_line, split_input};
 use draw_ports::{Sink, Source};
@@ -89,7 +88,7 @@ fn table_report(alloc: Global, file: &DrawFile, commands: &[u8]) -> Result<Repor
 /// text of a table of the file.
 fn table_in(alloc: Global, file: &DrawFile, commands: &[u8]) -> Result<Option<Table>, AllocError>
     ensures { IfOk result (λ found. MatchOption found
-        ((table : TableValue) → AreTableLine file.now (lines_of commands.now) table → ⊥)
+        ((table : TableValue) → ¬ AreTableLine file.now (lines_of commands.now) table)
         (λ table. AreTableLine file.now (lines_of commands.now) table)) }
 {
     let Some(line) = only_line(commands) else {
@@ -105,7 +104,7 @@ fn table_in(alloc: Global, file: &DrawFile, commands: &[u8]) -> Result<Option<Ta
 /// The one line that the bytes are, without its end. `None` exactly where they are not one line.
 fn only_line(bytes: &[u8]) -> Option<&[u8]>
     ensures { MatchOption result
-        ((line : List ℕ) → lines_of bytes.now ≡ line ∷ [] → ⊥)
+        ((line : List ℕ) → lines_of bytes.now ≢ line ∷ [])
         (λ line. lines_of bytes.now ≡ line.now ∷ []) }
 {
     let (line, rest) = first_line(bytes)?;
@@ -129,11 +128,9 @@ fn judge_input<S: Source, K: Sink>(alloc: Global, src: &mut S, out: &mut K) -> S
     ensures ends { EndsAs Judge result
         (outside (S.left src.old) (K.wrote out.old) (S.faults src.old) (K.faults out.old))
         (outside (S.left src.new) (K.wrote out.new) (S.faults src.new) (K.faults out.new)) }
-    ensures complete { (status : StatusValue) → CallsFor Judge (S.left src.old) status
-        → NothingFailed
+    ensures complete { EndsAsDecided Judge result
         (outside (S.left src.old) (K.wrote out.old) (S.faults src.old) (K.faults out.old))
-        (outside (S.left src.new) (K.wrote out.new) (S.faults src.new) (K.faults out.new))
-        → (result ≡ status) ⊎ (result ≡ Status.NoMemory) }
+        (outside (S.left src.new) (K.wrote out.new) (S.faults src.new) (K.faults out.new)) }
 {
     let input = match read_input(alloc, src, INPUT_LIMIT) {
         Ok(input) => input,
@@ -183,12 +180,9 @@ pub fn run_check<S: Source, K: Sink>(
         (outside (S.left src.old) (K.wrote out.old) (S.faults src.old) (K.faults out.old))
         (outside (S.left src.new) (K.wrote out.new) (S.faults src.new) (K.faults out.new)) }
     // The right words and no fault: by the bytes alone, or no memory.
-    ensures complete { (mode : Mode) (status : StatusValue)
-        → AsksFor Drawcheck (words_of words.now) mode → CallsFor mode (S.left src.old) status
-        → NothingFailed
+    ensures complete { IsComplete Drawcheck result (words_of words.now)
         (outside (S.left src.old) (K.wrote out.old) (S.faults src.old) (K.faults out.old))
-        (outside (S.left src.new) (K.wrote out.new) (S.faults src.new) (K.faults out.new))
-        → (result ≡ status) ⊎ (result ≡ Status.NoMemory) }
+        (outside (S.left src.new) (K.wrote out.new) (S.faults src.new) (K.faults out.new)) }
 {
     if !is_judge(words) {
         return finish(out, CHECK_USAGE, Status::Usage);

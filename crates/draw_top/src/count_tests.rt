@@ -2,7 +2,7 @@ ghost use Rattle.std.specs.Prelude.{◌≡◌, true, IfOk};
 ghost use Rattle.count_core.specs.Assignments.{makes_true, Satisfies, SatisfiesQuestion};
 ghost use Rattle.pairing_draw.specs.Encoding.{lits_of_moves, rules_of};
 
-use crate::tests::{ROUND_OF_16, TWO_TEAMS, file_of};
+use crate::tests::{ROUND_OF_16, TWO_TEAMS, file_of, start};
 use count_core::{Lit, Problem, satisfied};
 use draw_state::State;
 use draw_tables::{Move, Table};
@@ -139,16 +139,28 @@ fn is_encoded(
     Ok(problem.atoms() == atoms && problem.rules().len() == number)
 }
 
+/// Whether the file of the head has so many atoms and rules, and these rules.
+fn is_head_encoded(
+    alloc: Global,
+    head: &str,
+    atoms: u32,
+    number: usize,
+    rules: &[(usize, &[u32], (u32, u32))],
+) -> Result<bool, Fail> {
+    let file = file_of(alloc, head)?;
+    let encoded = is_encoded(alloc, &file, atoms, number, rules);
+    drop(file);
+    Ok(encoded?)
+}
+
 /// 64 pairs; 8 rules of runners-up, 8 of winners, and 15 pairs that may not meet: 8 of one group
 /// and 7 of one association.
 #[test]
 fn a_pairing_is_counted(rt: HostRuntime) -> Result<(), Fail> {
     let alloc = rt.alloc();
-    let file = file_of(alloc, ROUND_OF_16)?;
-    assert!(rt; is_encoded(alloc, &file, 64, 31, &RULES)?);
-    let small = file_of(alloc, TWO_TEAMS)?;
+    assert!(rt; is_head_encoded(alloc, ROUND_OF_16, 64, 31, &RULES)?);
     let both: &[(usize, &[u32], (u32, u32))] = &[(0, &[0], (1, 1)), (1, &[0], (1, 1))];
-    assert!(rt; is_encoded(alloc, &small, 1, 2, both)?);
+    assert!(rt; is_head_encoded(alloc, TWO_TEAMS, 1, 2, both)?);
     Ok(())
 }
 
@@ -180,17 +192,18 @@ fn paired(
 ) -> Result<(State, bool), AllocError> {
     let mut state = State::start(alloc, file)?;
     let drawn = state.apply(alloc, Move::Drawn(runner)).is_ok();
-    let accepted = state.apply(alloc, Move::Paired(runner, winner)).is_ok();
-    Ok((state, drawn && accepted))
+    let paired = state.apply(alloc, Move::Paired(runner, winner)).is_ok();
+    Ok((state, drawn && paired))
 }
 
 /// Whether the values of the drawn table make it again, and those of two runners-up with one winner
 /// make none.
 fn make_tables_at_first(alloc: Global, file: &DrawFile) -> Result<bool, AllocError> {
     let state = State::start(alloc, file)?;
-    let drawn = make_their_table(alloc, &state, &DRAWN)?;
-    let twice = make_their_table(alloc, &state, &[3, 5, 3, 1, 2, 7, 4, 6])?;
-    Ok(drawn && !twice)
+    let drawn = make_their_table(alloc, &state, &DRAWN);
+    let twice = make_their_table(alloc, &state, &[3, 5, 3, 1, 2, 7, 4, 6]);
+    drop(state);
+    Ok(drawn? && !twice?)
 }
 
 /// Whether the values of the drawn table make it in the state in which this pair was drawn.
@@ -201,8 +214,9 @@ fn make_it_after(
     winner: TeamId,
 ) -> Result<bool, AllocError> {
     let (state, accepted) = paired(alloc, file, runner, winner)?;
-    let made = make_their_table(alloc, &state, &DRAWN)?;
-    Ok(accepted && made)
+    let made = make_their_table(alloc, &state, &DRAWN);
+    drop(state);
+    Ok(accepted && made?)
 }
 
 /// The values of the drawn table make it again, at first and after its pair of Villarreal and
@@ -212,9 +226,13 @@ fn make_it_after(
 fn values_make_tables(rt: HostRuntime) -> Result<(), Fail> {
     let alloc = rt.alloc();
     let file = file_of(alloc, ROUND_OF_16)?;
-    assert!(rt; make_tables_at_first(alloc, &file)?);
-    assert!(rt; make_it_after(alloc, &file, TeamId(13), TeamId(7))?);
-    assert!(rt; !make_it_after(alloc, &file, TeamId(13), TeamId(6))?);
+    let at_first = make_tables_at_first(alloc, &file);
+    let after_juventus = make_it_after(alloc, &file, TeamId(13), TeamId(7));
+    let after_lille = make_it_after(alloc, &file, TeamId(13), TeamId(6));
+    drop(file);
+    assert!(rt; at_first?);
+    assert!(rt; after_juventus?);
+    assert!(rt; !after_lille?);
     Ok(())
 }
 
@@ -240,8 +258,9 @@ fn have_literals(
 #[test]
 fn moves_have_literals(rt: HostRuntime) -> Result<(), Fail> {
     let alloc = rt.alloc();
-    let file = file_of(alloc, ROUND_OF_16)?;
-    let mut state = State::start(alloc, &file)?;
-    assert!(rt; have_literals(alloc, &mut state, TeamId(13), TeamId(7), 47)?);
+    let mut state = start(alloc, ROUND_OF_16)?;
+    let literals = have_literals(alloc, &mut state, TeamId(13), TeamId(7), 47);
+    drop(state);
+    assert!(rt; literals?);
     Ok(())
 }

@@ -7,6 +7,9 @@ use crate::status::Status;
 use draw_ports::{PortFault, Sink, Source, put_all, read_all};
 use std::alloc::Global;
 
+/// At most so many bytes are taken as an input.
+pub const INPUT_LIMIT: u64 = 4_194_304;
+
 /// Reads the source to its end, at most `limit` bytes, or gives the status with which the call
 /// ends: `ReadFault` where the source failed, `TooLong` where it held more bytes, and `NoMemory`
 /// where memory ran out.

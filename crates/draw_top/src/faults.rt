@@ -1,4 +1,6 @@
-ghost use Rattle.std.specs.Prelude.{◌≡◌, ◌++◌, IfOk};
+//! The line of a head that has no draw file.
+
+ghost use Rattle.std.specs.Prelude.{◌≡◌, ◌≢◌, ◌++◌, IfOk, OnOk};
 ghost use Rattle.std.specs.Fmt.{decimal};
 ghost use Rattle.team_files.specs.declared.fault.FileFault.{FileFault as FaultValue};
 ghost use Rattle.draw_top.specs.Faults.{field_text, cause_text, fault_line};
@@ -6,8 +8,20 @@ ghost use Rattle.draw_top.specs.Faults.{field_text, cause_text, fault_line};
 use std::alloc::{AllocError, Global};
 use team_files::{Field, FileFault};
 
+/// The line of a fault, or out of memory where that is the fault.
+pub fn refusal_line(alloc: Global, fault: &FileFault) -> Result<Vec<u8>, AllocError>
+    ensures line { IfOk result (λ line. line.items ≡ fault_line fault.now) }
+    ensures fault { OnOk result (fault.now ≢ FileFault.NoMemory) }
+{
+    if let FileFault::NoMemory = fault {
+        return Err(AllocError);
+    }
+    let line = fault_line(alloc, fault)?;
+    Ok(line)
+}
+
 /// The line that tells why a head has no draw file.
-pub fn fault_line(alloc: Global, fault: &FileFault) -> Result<Vec<u8>, AllocError>
+fn fault_line(alloc: Global, fault: &FileFault) -> Result<Vec<u8>, AllocError>
     ensures { IfOk result (λ line. line.items ≡ fault_line fault.now) }
 {
     let mut line = Vec::from_slice(alloc, b"file refused ")?;

@@ -1,16 +1,15 @@
 //! What the program `draw` does: it follows a draw.
 
-ghost use Rattle.std.specs.Prelude.{◌≡◌, ◌⊎◌, ◌↔◌, IfOk, IsTrue};
-ghost use Rattle.draw_top.specs.declared.status.Status.{Status as StatusValue};
+ghost use Rattle.std.specs.Prelude.{◌≡◌, ◌↔◌, IfOk, IsTrue};
 ghost use Rattle.draw_top.specs.Outputs.{IsOutputOf};
-ghost use Rattle.draw_top.specs.Outside.{outside, NothingFailed};
+ghost use Rattle.draw_top.specs.Outside.{outside};
 ghost use Rattle.draw_top.specs.Follow.{words_of, IsFollow, GainsAnswer};
-ghost use Rattle.draw_top.specs.Modes.{Mode, AsksFor, Draw, Follow};
-ghost use Rattle.draw_top.specs.Endings.{EndsAs, Ends, CallsFor};
+ghost use Rattle.draw_top.specs.Modes.{AsksFor, Draw, Follow};
+ghost use Rattle.draw_top.specs.Endings.{EndsAs, Ends, EndsAsDecided, IsComplete};
 
 use crate::answering::answer_text;
-use crate::endings::{finish, read_input};
-use crate::heads::{INPUT_LIMIT, refusal_line};
+use crate::endings::{INPUT_LIMIT, finish, read_input};
+use crate::faults::refusal_line;
 use crate::status::Status;
 use draw_lines::split_input;
 use draw_ports::{Sink, Source};
@@ -59,11 +58,9 @@ fn follow_input<S: Source, K: Sink>(alloc: Global, src: &mut S, out: &mut K) -> 
     ensures ends { EndsAs Follow result
         (outside (S.left src.old) (K.wrote out.old) (S.faults src.old) (K.faults out.old))
         (outside (S.left src.new) (K.wrote out.new) (S.faults src.new) (K.faults out.new)) }
-    ensures complete { (status : StatusValue) → CallsFor Follow (S.left src.old) status
-        → NothingFailed
+    ensures complete { EndsAsDecided Follow result
         (outside (S.left src.old) (K.wrote out.old) (S.faults src.old) (K.faults out.old))
-        (outside (S.left src.new) (K.wrote out.new) (S.faults src.new) (K.faults out.new))
-        → (result ≡ status) ⊎ (result ≡ Status.NoMemory) }
+        (outside (S.left src.new) (K.wrote out.new) (S.faults src.new) (K.faults out.new)) }
 {
     let input = match read_input(alloc, src, INPUT_LIMIT) {
         Ok(input) => input,
@@ -102,12 +99,9 @@ pub fn follow<S: Source, K: Sink>(
         (outside (S.left src.old) (K.wrote out.old) (S.faults src.old) (K.faults out.old))
         (outside (S.left src.new) (K.wrote out.new) (S.faults src.new) (K.faults out.new)) }
     // The right words and no fault: by the bytes alone, or no memory.
-    ensures complete { (mode : Mode) (status : StatusValue)
-        → AsksFor Draw (words_of words.now) mode → CallsFor mode (S.left src.old) status
-        → NothingFailed
+    ensures complete { IsComplete Draw result (words_of words.now)
         (outside (S.left src.old) (K.wrote out.old) (S.faults src.old) (K.faults out.old))
-        (outside (S.left src.new) (K.wrote out.new) (S.faults src.new) (K.faults out.new))
-        → (result ≡ status) ⊎ (result ≡ Status.NoMemory) }
+        (outside (S.left src.new) (K.wrote out.new) (S.faults src.new) (K.faults out.new)) }
 {
     if !is_follow(words) {
         return finish(out, USAGE, Status::Usage);

@@ -12,7 +12,6 @@ mod count_tests;
 mod endings;
 mod faults;
 mod following;
-mod heads;
 mod laws;
 mod run;
 #[cfg(test)]

@@ -1,9 +1,8 @@
-ghost use Rattle.std.specs.Prelude.{◌≡◌, ◌⊎◌};
-ghost use Rattle.draw_top.specs.declared.status.Status.{Status as StatusValue};
-ghost use Rattle.draw_top.specs.Outside.{outside, NothingFailed};
+ghost use Rattle.std.specs.Prelude.{◌≡◌};
+ghost use Rattle.draw_top.specs.Outside.{outside};
 ghost use Rattle.draw_top.specs.Follow.{words_of, GainsAnswer};
-ghost use Rattle.draw_top.specs.Modes.{Mode, AsksFor, Draw, Follow};
-ghost use Rattle.draw_top.specs.Endings.{Ends, CallsFor};
+ghost use Rattle.draw_top.specs.Modes.{AsksFor, Draw, Follow};
+ghost use Rattle.draw_top.specs.Endings.{Ends, IsComplete};
 
 use crate::following::follow;
 use crate::status::Status;
@@ -31,12 +30,9 @@ pub fn run_draw<R: Threads + Wait + Sync, S: Source, K: Sink, G: Gate + Sync>(
         (outside (S.left src.old) (K.wrote out.old) (S.faults src.old) (K.faults out.old))
         (outside (S.left src.new) (K.wrote out.new) (S.faults src.new) (K.faults out.new)) }
     // The right words and no fault: by the bytes alone, or no memory.
-    ensures complete { (mode : Mode) (status : StatusValue)
-        → AsksFor Draw (words_of words.now) mode → CallsFor mode (S.left src.old) status
-        → NothingFailed
+    ensures complete { IsComplete Draw result (words_of words.now)
         (outside (S.left src.old) (K.wrote out.old) (S.faults src.old) (K.faults out.old))
-        (outside (S.left src.new) (K.wrote out.new) (S.faults src.new) (K.faults out.new))
-        → (result ≡ status) ⊎ (result ≡ Status.NoMemory) }
+        (outside (S.left src.new) (K.wrote out.new) (S.faults src.new) (K.faults out.new)) }
 {
     let _ = rt;
     let _ = gate;

@@ -1,4 +1,4 @@
-use crate::tests::{ROUND_OF_16, TWO_TEAMS, file_of};
+use crate::tests::{ROUND_OF_16, TWO_TEAMS, start, turn_of};
 use crate::turn::Turn;
 use draw_lines::{read_line, reply_text};
 use draw_state::{State, StateFault};
@@ -71,11 +71,14 @@ fn goes_back(state: &mut State) -> bool {
 #[test]
 fn a_state_goes_forward_and_back(rt: HostRuntime) -> Result<(), Fail> {
     let alloc = rt.alloc();
-    let file = file_of(alloc, TWO_TEAMS)?;
-    let mut state = State::start(alloc, &file)?;
-    assert!(rt; begins_with_the_runner_up(alloc, &mut state)?);
-    assert!(rt; ends_with_its_opponent(alloc, &mut state)?);
-    assert!(rt; goes_back(&mut state));
+    let mut state = start(alloc, TWO_TEAMS)?;
+    let begins = begins_with_the_runner_up(alloc, &mut state);
+    let ends = ends_with_its_opponent(alloc, &mut state);
+    let back = goes_back(&mut state);
+    drop(state);
+    assert!(rt; begins?);
+    assert!(rt; ends?);
+    assert!(rt; back);
     Ok(())
 }
 
@@ -95,9 +98,10 @@ fn is_copied(alloc: Global, state: &mut State) -> Result<bool, AllocError> {
 #[test]
 fn a_copy_of_a_state_is_its_own(rt: HostRuntime) -> Result<(), Fail> {
     let alloc = rt.alloc();
-    let file = file_of(alloc, TWO_TEAMS)?;
-    let mut state = State::start(alloc, &file)?;
-    assert!(rt; is_copied(alloc, &mut state)?);
+    let mut state = start(alloc, TWO_TEAMS)?;
+    let copied = is_copied(alloc, &mut state);
+    drop(state);
+    assert!(rt; copied?);
     Ok(())
 }
 
@@ -114,54 +118,70 @@ fn is_copied_reply(
     Ok(text.as_slice() == wanted.as_bytes())
 }
 
-/// The balls of the round of 16 of 2021/22 and two that are refused, each reply told from a copy.
+/// The balls of the round of 16 of 2021/22 and two that are refused, each with its reply.
+const REPLIES: [(&str, &str); 18] = [
+    (
+        "ball RBS",
+        "drawn RBS\nnext opponent RBS: MCI LIV AJX RMA BAY MUN JUV\n",
+    ),
+    (
+        "ball BAY",
+        "paired RBS BAY\nnext runner-up: PSG ATM SCP INT BEN VIL CHE\n",
+    ),
+    (
+        "ball SCP",
+        "drawn SCP\nnext opponent SCP: MCI LIV RMA MUN LIL JUV\n",
+    ),
+    (
+        "ball MCI",
+        "paired SCP MCI\nnext runner-up: PSG ATM INT BEN VIL CHE\n",
+    ),
+    (
+        "ball BEN",
+        "drawn BEN\nnext opponent BEN: LIV AJX RMA MUN LIL JUV\n",
+    ),
+    (
+        "ball AJX",
+        "paired BEN AJX\nnext runner-up: PSG ATM INT VIL CHE\n",
+    ),
+    ("ball CHE", "drawn CHE\nnext opponent CHE: RMA LIL\n"),
+    (
+        "ball LIL",
+        "paired CHE LIL\nnext runner-up: PSG ATM INT VIL\n",
+    ),
+    ("ball PSG", "drawn PSG\nnext opponent PSG: RMA\n"),
+    ("ball LIV", "refused excluded\n"),
+    ("ball RMA", "paired PSG RMA\nnext runner-up: ATM INT VIL\n"),
+    ("ball ATM", "drawn ATM\nnext opponent ATM: MUN JUV\n"),
+    ("ball MUN", "paired ATM MUN\nnext runner-up: INT VIL\n"),
+    ("ball INT", "drawn INT\nnext opponent INT: LIV\n"),
+    ("ball LIV", "paired INT LIV\nnext runner-up: VIL\n"),
+    ("ball VIL", "drawn VIL\nnext opponent VIL: JUV\n"),
+    ("ball JUV", "paired VIL JUV\ncomplete\n"),
+    ("ball PSG", "refused complete\n"),
+];
+
+/// Whether each of the replies is told from a copy as it is wanted.
+fn are_copied_replies(
+    alloc: Global,
+    turn: &mut Turn,
+    replies: &[(&str, &str)],
+) -> Result<bool, AllocError> {
+    for (line, wanted) in replies {
+        if !is_copied_reply(alloc, turn, line, wanted)? {
+            return Ok(false);
+        }
+    }
+    Ok(true)
+}
+
+/// The replies of a whole draw, each told from a copy.
 #[test]
 fn replies_are_copied(rt: HostRuntime) -> Result<(), Fail> {
     let alloc = rt.alloc();
-    let file = file_of(alloc, ROUND_OF_16)?;
-    let mut turn = Turn::open(alloc, &file)?;
-    for (line, wanted) in [
-        (
-            "ball RBS",
-            "drawn RBS\nnext opponent RBS: MCI LIV AJX RMA BAY MUN JUV\n",
-        ),
-        (
-            "ball BAY",
-            "paired RBS BAY\nnext runner-up: PSG ATM SCP INT BEN VIL CHE\n",
-        ),
-        (
-            "ball SCP",
-            "drawn SCP\nnext opponent SCP: MCI LIV RMA MUN LIL JUV\n",
-        ),
-        (
-            "ball MCI",
-            "paired SCP MCI\nnext runner-up: PSG ATM INT BEN VIL CHE\n",
-        ),
-        (
-            "ball BEN",
-            "drawn BEN\nnext opponent BEN: LIV AJX RMA MUN LIL JUV\n",
-        ),
-        (
-            "ball AJX",
-            "paired BEN AJX\nnext runner-up: PSG ATM INT VIL CHE\n",
-        ),
-        ("ball CHE", "drawn CHE\nnext opponent CHE: RMA LIL\n"),
-        (
-            "ball LIL",
-            "paired CHE LIL\nnext runner-up: PSG ATM INT VIL\n",
-        ),
-        ("ball PSG", "drawn PSG\nnext opponent PSG: RMA\n"),
-        ("ball LIV", "refused excluded\n"),
-        ("ball RMA", "paired PSG RMA\nnext runner-up: ATM INT VIL\n"),
-        ("ball ATM", "drawn ATM\nnext opponent ATM: MUN JUV\n"),
-        ("ball MUN", "paired ATM MUN\nnext runner-up: INT VIL\n"),
-        ("ball INT", "drawn INT\nnext opponent INT: LIV\n"),
-        ("ball LIV", "paired INT LIV\nnext runner-up: VIL\n"),
-        ("ball VIL", "drawn VIL\nnext opponent VIL: JUV\n"),
-        ("ball JUV", "paired VIL JUV\ncomplete\n"),
-        ("ball PSG", "refused complete\n"),
-    ] {
-        assert!(rt; is_copied_reply(alloc, &mut turn, line, wanted)?, "{line}");
-    }
+    let mut turn = turn_of(alloc, ROUND_OF_16)?;
+    let copied = are_copied_replies(alloc, &mut turn, &REPLIES);
+    drop(turn);
+    assert!(rt; copied?);
     Ok(())
 }

@@ -3,11 +3,12 @@ ghost use Rattle.std.specs.Prelude.{◌<◌};
 use crate::laws::{law_answer_exists, law_answer_or_refusal, law_one_answer};
 use crate::run::run_draw;
 use crate::status::Status;
+use crate::turn::Turn;
 use draw_lines::{law_head_before_separator, law_lines_lose_their_ends, law_pieces_are_lines};
 use draw_ports::{MemorySink, MemorySource, OpenGate};
 use draw_state::{
-    law_offered_is_accepted, law_one_outcome, law_one_run, law_replies_name_teams, law_states_stay,
-    law_steps_below_limit,
+    State, law_offered_is_accepted, law_one_outcome, law_one_run, law_replies_name_teams,
+    law_states_stay, law_steps_below_limit,
 };
 use draw_tables::{
     law_legal_where_nothing_broken, law_offer_where_decided, law_offered_where_possible,
@@ -431,6 +432,22 @@ pub(crate) fn file_of(alloc: Global, head: &str) -> Result<DrawFile, FileFault> 
     read_file(alloc, head.as_bytes())
 }
 
+/// The first state of the draw of a head.
+pub(crate) fn start(alloc: Global, head: &str) -> Result<State, Fail> {
+    let file = file_of(alloc, head)?;
+    let state = State::start(alloc, &file);
+    drop(file);
+    Ok(state?)
+}
+
+/// The first turn of the draw of a head.
+pub(crate) fn turn_of(alloc: Global, head: &str) -> Result<Turn, Fail> {
+    let file = file_of(alloc, head)?;
+    let turn = Turn::open(alloc, &file);
+    drop(file);
+    Ok(turn?)
+}
+
 /// Whether the file is of a pairing of two pots, without groups, limits and fixed places.
 fn is_plain_pairing(file: &DrawFile) -> bool {
     file.kind() == Kind::Pairing
@@ -444,7 +461,9 @@ fn is_plain_pairing(file: &DrawFile) -> bool {
 #[test]
 fn a_file_tells_its_kind(rt: HostRuntime) -> Result<(), Fail> {
     let file = file_of(rt.alloc(), TWO_TEAMS)?;
-    assert!(rt; is_plain_pairing(&file));
+    let plain = is_plain_pairing(&file);
+    drop(file);
+    assert!(rt; plain);
     Ok(())
 }
 

@@ -1,12 +1,10 @@
-ghost use Rattle.std.specs.Prelude.{◌≡◌, [], ◌∷◌, ◌++◌, IfOk, OnErr, Ok};
+ghost use Rattle.std.specs.Prelude.{◌≡◌, [], ◌∷◌, ◌++◌, IfOk, OnErr};
 ghost use Rattle.draw_tables.specs.States.{IsCandidateMove, IsState};
 ghost use Rattle.draw_tables.specs.Offers.{IsOffer, IsPossible};
-ghost use Rattle.draw_top.specs.Replies.{TakesBall};
-ghost use Rattle.draw_state.specs.Runs.{IsNextLine, IsStep};
+ghost use Rattle.draw_top.specs.Replies.{StepsTo, IsRefusal, TakesBall};
+ghost use Rattle.draw_state.specs.Runs.{IsNextLine};
 ghost use Rattle.draw_state.specs.Replies.{IsFileNextLine, IsFileReply};
 ghost use Rattle.draw_state.specs.declared.commands.Action.{Action as ActionValue};
-ghost use Rattle.draw_state.specs.declared.replies.Refusal.{Refusal as RefusalValue};
-ghost use Rattle.draw_state.specs.declared.replies.Reply.{Reply as ReplyValue};
 
 use draw_state::{
     Action, Choices, Command, Moves, NextLine, Reply, State, StateFault, judge_command, next_line,
@@ -70,9 +68,9 @@ impl Turn {
         answered: u64,
         command: Command,
     ) -> Result<Reply, AllocError>
-        ensures step { IfOk result (λ r. IsStep self.old.file self.old.moves answered command self.new.moves r) }
+        ensures step { IfOk result (λ r. StepsTo self.old self.new answered command r) }
         ensures of_file { IfOk result (λ r. IsFileReply self.old.file r) }
-        ensures refused { (refusal : RefusalValue) → result ≡ Ok (ReplyValue.Refused refusal) → self.new ≡ self.old }
+        ensures refused { IfOk result (λ r. IsRefusal r → self.new ≡ self.old) }
         ensures file { self.new.file ≡ self.old.file }
         ensures err { OnErr result (self.new ≡ self.old) }
     {
@@ -173,7 +171,7 @@ fn next_after(alloc: Global, state: &State, offered: &[Choice]) -> Result<NextLi
     Ok(next)
 }
 
-/// What the type of a state says of its moves. Does nothing.
+/// What the type of a state says of its moves.
 fn expect_state(state: &State)
     ensures { IsState state.now.file state.now.moves }
 {

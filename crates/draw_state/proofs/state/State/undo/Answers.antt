@@ -1,4 +1,4 @@
-use Rattle.std.proofs.Common.{◌≡◌, List, [], ◌++◌, Option, Some, None, append-nil}
+use Rattle.std.proofs.Common.{◌≡◌, List, ◌++◌, Option, Some, None, append-nil}
 use Rattle.std.specs.Arc.{arc_value}
 use Rattle.std.specs.Option.{option_to_list}
 use Rattle.rule_sets.specs.Files.{DrawFile}

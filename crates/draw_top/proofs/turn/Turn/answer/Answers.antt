@@ -1,6 +1,4 @@
-use Rattle.std.proofs.Common.{refl, ◌≡◌}
-use Rattle.draw_state.specs.declared.commands.Action.{Action}
-use Rattle.draw_state.specs.Commands.{IsAcceptedCommand}
+use Rattle.std.proofs.Common.{refl}
 use Rattle.draw_state.proofs.Outcomes.{accepted_is_possible}
 use Rattle.draw_top.proofs.turn.Turn.answer.Goals as goal
 
