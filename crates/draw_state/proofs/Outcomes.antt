@@ -7,6 +7,7 @@ use Rattle.draw_tables.specs.declared.moves.Phase.{Phase}
 use Rattle.draw_tables.specs.Lists.{IsAmong}
 use Rattle.draw_tables.specs.States.{phase_of, candidates, move_in}
 use Rattle.draw_tables.specs.Offers.{IsOffer, IsPossible}
+use Rattle.draw_tables.proofs.Numbers.{same_number}
 use Rattle.draw_tables.proofs.OfferLaws.{offered_where_possible}
 use Rattle.draw_state.specs.declared.commands.Word.{Word}
 use Rattle.draw_state.specs.declared.commands.Command.{Command}
@@ -17,16 +18,6 @@ use Rattle.draw_state.specs.Laws.{OneOutcome}
 use Rattle.draw_state.proofs.Refusals.{first_holds, one_first, one_action, for_limit, for_form, for_unknown, for_complete, for_phase, for_excluded, accepted}
 
 -- ---- whether a choice stands in a list
-
-same_number : (a b : ℕ) → (a ≡ b) ⊎ (a ≡ b → ⊥)
-same_number zero zero = inl refl
-same_number zero (suc b) = inr (λ e. omega arith)
-same_number (suc a) zero = inr (λ e. omega arith)
-same_number (suc a) (suc b) = up (same_number a b)
-  where
-    up : (a ≡ b) ⊎ (a ≡ b → ⊥) → (suc a ≡ suc b) ⊎ (suc a ≡ suc b → ⊥)
-    up (inl e) = inl (ap suc e)
-    up (inr n) = inr (λ e. n (omega arith))
 
 same_choice : (c d : Choice) → (c ≡ d) ⊎ (c ≡ d → ⊥)
 same_choice (Choice.Team a) (Choice.Team b) = from (same_number a.0 b.0)
