@@ -1,4 +1,4 @@
--- The failing hint that is told of a step is its failing hint.
+-- The failing hint that is reported of a step is its failing hint.
 use Rattle.std.proofs.Common.{◌≡◌, ℕ, zero, suc, ◌+◌, ◌⊎◌, Bool, true, false, cond, List, [], ◌∷◌, length, take, slice_get, Option, Some, None, refl, sym, ap, ◌∙◌, subst, inl, inr, arith}
 use Rattle.std.specs.Prelude.{◌==◌}
 use Rattle.std.proofs.lemmas.Bool.Decides.{nat_tests}
@@ -58,7 +58,7 @@ module _ (find : Hint → Option CountRule) where
     fails = record { reached = rest.fails.reached; before = (r, found, c, f, rest.fails.before); after = ends_later h hs rest.fails.reached rest.place rest.fails.after };
   }
 
-  -- what is told is where the hints fail
+  -- what is reported is where the hints fail
   failing_told : (hs : List Hint) (p : PartialAssignment) (i n : ℕ) → failing_from find p hs i ≡ Some n → FailFrom p hs i n
   failing_told [] p i n e =
       let same : i ≡ n = cc in
@@ -79,13 +79,13 @@ module _ (find : Hint → Option CountRule) where
       go None found rest e = let same : i ≡ n = cc in at_once p h hs i n same (inl found)
       go (Some r) found rest e = by_case r found rest (conflicts p r.lits r.lo r.hi) (forces p r.lits r.lo r.hi) refl refl e
 
-  -- a faulty first hint is told
+  -- a faulty first hint is reported
   first_told : (p : PartialAssignment) (h : Hint) (hs : List Hint) (i : ℕ) → IsFaulty find p h (zero + 1 == suc (length hs)) → failing_from find p (h ∷ hs) i ≡ Some i
   first_told p h hs i (inl none) = rw none refl
   first_told p h hs i (inr (inl (r, found, c, more))) = rw (found, c, last_first hs more) refl
   first_told p h hs i (inr (inr (r, found, c, f))) = rw (found, c, f) refl
 
-  -- hints that fail at k are told to fail there
+  -- hints that fail at k are reported to fail there
   fails_told : (hs : List Hint) (p : PartialAssignment) (i k : ℕ) (q : PartialAssignment) → LeadTo find p (take k hs) q → EndsAt q hs k → failing_from find p hs i ≡ Some (i + k)
   fails_told [] p i zero q before after = ap Some (omega arith)
   fails_told [] p i (suc k) q before (inl e) = absurd (omega (arith, e))

@@ -2,11 +2,11 @@
 -- tests, facts of each element, counts, and a list written back
 pub mod Lists
 -- ---- problems
--- literals gone through with a mark at each atom: where two are over one atom
+-- a mark at each atom of some literals: whether two are over one atom
 pub mod Marks
 -- which rules make a problem, and their literals' atoms by places
 pub mod Rules
--- the fault that is told is the first
+-- the fault that is reported is the first
 pub mod FirstFaults
 -- ---- partial assignments
 -- the value of an atom, and literals made true or false
@@ -22,7 +22,7 @@ pub mod Agreement
 -- ---- steps
 -- hints checked one by one, and acceptance as a whole
 pub mod HintChecks
--- the failing hint that is told of a step is its failing hint
+-- the failing hint that is reported of a step is its failing hint
 pub mod FailingHints
 -- every clause of an accepted list follows
 pub mod Soundness

@@ -1,4 +1,4 @@
--- A list of literals gone through with a mark at each atom met.
+-- A mark at the atom of each literal of a list: it is met again exactly where two are over one atom.
 use Rattle.std.proofs.Common.{◌≡◌, ◌≢◌, ℕ, ◌<◌, ◌≤◌, Bool, true, false, List, [], ◌∷◌, length, drop, drop-cons, get_or, refl, ◌∙◌, ap, arith}
 use Rattle.std.specs.Prelude.{slice_set, ◌||◌, ◌==◌, nat_lt}
 use Rattle.std.specs.List.{list_any}

@@ -8,7 +8,7 @@ use Rattle.count_core.specs.declared.hint.Hint.TheVariants.{Rule, Step as Earlie
 use Rattle.count_core.specs.declared.step.Step.{Step}
 use Rattle.count_core.specs.declared.count_rule.CountRule.{CountRule}
 use Rattle.count_core.specs.Problems.{Problem}
-use Rattle.count_core.specs.Steps.{failing_hint}
+use Rattle.count_core.specs.Steps.{step_of, failing_hint}
 
 -- the atom, as a literal
 abbrev pub yes_of : ℕ → Lit
@@ -35,10 +35,6 @@ clash = record {
       one_of 0 2 ∷ one_of 4 6 ∷ one_of 1 3 ∷ one_of 5 7 ∷
       at_most_one 0 2 4 6 ∷ at_most_one 1 3 5 7 ∷ [];
 }
-
--- a step, by its clause and hints
-abbrev pub step_of : List Lit → List Hint → Step
-step_of clause hints = record { clause = clause; hints = hints }
 
 -- the first team is not in the first group, since else the second pot has no team there
 abbrev pub not_0 : Step

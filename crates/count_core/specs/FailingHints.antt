@@ -36,6 +36,6 @@ IsFailingHint problem earlier s n =
     ((is_clause problem s.clause ≡ false) × (n ≡ 0))
     ⊎ ((is_clause problem s.clause ≡ true) × FailAt (rule_at problem earlier) (assumed_negation problem.atoms s.clause) s.hints n)
 
--- The failing hint that is told of a step is exactly its failing hint.
+-- The failing hint that is reported of a step is exactly its failing hint.
 abbrev pub TellsFailingHint : Type 0
 TellsFailingHint = (problem : Problem) (earlier : List Step) (s : Step) (n : ℕ) → (failing_hint problem earlier s ≡ Some n) ↔ IsFailingHint problem earlier s n

@@ -22,7 +22,7 @@ pub record IsFirstFault (atoms : ℕ) (rules : List CountRule) (fault : CoreFaul
   pub before : (k : ℕ) (other : CountRule) → k < number → slice_get rules k ≡ Some other → IsWellFormedRule atoms other
   pub has : IsFaultOf atoms number rule fault
 
--- Building a problem of rules tells exactly their first fault, and none where each is well formed.
+-- Building a problem of rules reports exactly their first fault, and none where each is well formed.
 pub record TellsFirstFault : Type 0 where
   pub fault : (atoms : ℕ) (rules : List CountRule) (fault : CoreFault) → (first_fault atoms 0 rules ≡ Some fault) ↔ IsFirstFault atoms rules fault
   pub none : (atoms : ℕ) (rules : List CountRule) → (first_fault atoms 0 rules ≡ None) ↔ AllByRecursion (IsWellFormedRule atoms) rules

@@ -1,4 +1,4 @@
--- problems: which rules make one, and which fault is told of the others
+-- problems: which rules make one, and which fault is reported of the others
 pub mod Limits
 pub mod Problems
 pub mod FirstFaults

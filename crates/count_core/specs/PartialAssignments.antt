@@ -59,7 +59,7 @@ forces p ls lo hi = nat_lt 0 (unsets p ls) && ((trues p ls == hi) || (length ls 
 abbrev pub assign : Bool → Lit → PartialAssignment → PartialAssignment
 assign b l p = if is_unset p l then slice_set p l.atom.0 (Some (under_sign l.positive b)) else p
 
--- each unset literal made true or false; the order is of no account where the atoms are different
+-- each unset literal made true or false; the order does not matter where the atoms are different
 abbrev pub assign_all : Bool → List Lit → PartialAssignment → PartialAssignment
 assign_all b [] p = p
 assign_all b (l ∷ ls) p = assign_all b ls (assign b l p)

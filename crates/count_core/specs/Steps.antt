@@ -10,6 +10,10 @@ use Rattle.count_core.specs.Problems.{Problem, are_distinct_within}
 use Rattle.count_core.specs.Assignments.{negation}
 use Rattle.count_core.specs.PartialAssignments.{PartialAssignment, conflicts, forces, forced_assignment, assign_all}
 
+-- a step, by its clause and hints
+abbrev pub step_of : List Lit → List Hint → Step
+step_of clause hints = record { clause = clause; hints = hints }
+
 -- a clause as a rule: at least one of its literals
 abbrev pub clause_rule : List Lit → CountRule
 clause_rule lits = record { lits = lits; lo = 1; hi = length lits }

@@ -4,17 +4,17 @@ ghost use Rattle.count_core.specs.Clash.{ClashTable};
 ghost use Rattle.count_core.specs.FirstFaults.{TellsFirstFault};
 ghost use Rattle.count_core.specs.FailingHints.{TellsFailingHint};
 
-/// The fault of rules that is told is the first of the first rule that has one: each rule before it
-/// is well formed, and no fault with a lower number holds of it. There is none exactly where each
+/// The fault of rules that is reported is the first of the first rule that has one: each rule before
+/// it is well formed, and no fault with a lower number holds of it. There is none exactly where each
 /// rule is well formed.
 pub fn law_first_fault()
     ensures { TellsFirstFault }
 {}
 
-/// The failing hint that is told of a step is n exactly where its clause has a literal out of range
-/// or one atom twice, and n is 0; or where, with the clause's negation assumed, the hints before n
-/// force without a conflict, and either n is the number of hints or hint n is faulty after them: it
-/// names no rule, or it conflicts and is not the last, or it neither conflicts nor forces.
+/// The failing hint that is reported of a step is n exactly where its clause has a literal out of
+/// range or one atom twice, and n is 0; or where, with the clause's negation assumed, the hints
+/// before n force without a conflict, and either n is the number of hints or hint n is faulty after
+/// them: it names no rule, or it conflicts and is not the last, or it neither conflicts nor forces.
 pub fn law_failing_hint()
     ensures { TellsFailingHint }
 {}

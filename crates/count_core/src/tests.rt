@@ -25,7 +25,7 @@ const CLASH: [Row<'static>; 10] = [
     (&[1, 3, 5, 7], 0, 1),
 ];
 
-/// So many atoms, rules over them, and the fault that building a problem of them tells, or none.
+/// So many atoms, rules over them, and the fault that building a problem of them reports, or none.
 const FAULTS: [(u32, &[Row<'static>], Option<CoreFault>); 9] = [
     (0, &[], None),
     (8, &CLASH, None),

@@ -5,7 +5,7 @@ use Rattle.count_core.specs.declared.lit.Lit.{Lit}
 use Rattle.count_core.specs.declared.hint.Hint.{Hint}
 use Rattle.count_core.specs.declared.step.Step.{Step}
 use Rattle.count_core.specs.Problems.{Problem}
-use Rattle.count_core.specs.Steps.{IsAccepted, AreAccepted, failing_hint}
+use Rattle.count_core.specs.Steps.{step_of, IsAccepted, AreAccepted, failing_hint}
 
 -- A problem, and steps over it. A log and a lemma are seen as one.
 pub record Derivation : Type 0 where
@@ -21,10 +21,6 @@ pub record Closing : Type 0 where
 -- a closing of these parts
 abbrev pub closing_of : Problem → List Lit → List Step → Closing
 closing_of problem question steps = record { problem = problem; question = question; steps = steps }
-
--- a step, by its clause and hints
-abbrev pub step_of : List Lit → List Hint → Step
-step_of clause hints = record { clause = clause; hints = hints }
 
 -- the clause of a step that is there, and else none
 abbrev pub clause_of : Option Step → List Lit

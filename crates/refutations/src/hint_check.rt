@@ -2,7 +2,6 @@ ghost use Rattle.std.specs.Prelude.{◌≡◌, ◌≤◌, length, replicate, opt
 ghost use Rattle.count_core.specs.Problems.{repeats, are_within};
 ghost use Rattle.count_core.specs.PartialAssignments.{is_unset, assign_all};
 ghost use Rattle.count_core.specs.Steps as spec;
-ghost use Rattle.refutations.specs.Derivations.{step_of};
 ghost use Rattle.refutations.specs.Named.{rule_of};
 
 use crate::assignment::Assignment;
@@ -28,7 +27,7 @@ pub(crate) fn failing_hint(
 ) -> Option<usize>
     requires { assignment.old ≡ replicate problem.now.atoms None }
     ensures answer { result
-        ≡ spec.failing_hint problem.now earlier.now (step_of clause.now hints.now) }
+        ≡ spec.failing_hint problem.now earlier.now (spec.step_of clause.now hints.now) }
     ensures within { IfSome result (λ n. n ≤ length hints.now) }
     ensures atoms { length assignment.new ≡ length assignment.old }
 {

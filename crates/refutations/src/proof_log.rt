@@ -1,7 +1,7 @@
 ghost use Rattle.std.specs.Prelude.{◌≡◌, ◌+◌, ◌<◌, ◌⊎◌, [], ℕ, length, take, replicate, None, IfOk, IfErr, OnOk, OnErr, IsErrOf};
 ghost use Rattle.std.specs.Arc.{arc_value};
 ghost use Rattle.count_core.specs.Limits.{number_limit};
-ghost use Rattle.count_core.specs.Steps.{AreAccepted, NegatesOnly, failing_hint as hint_that_fails};
+ghost use Rattle.count_core.specs.Steps.{step_of, AreAccepted, NegatesOnly, failing_hint as hint_that_fails};
 ghost use Rattle.refutations.specs.Derivations as spec;
 ghost use Rattle.refutations.specs.Shifts.{ArePutBehind};
 ghost use Rattle.refutations.specs.Cones.{IsCone};
@@ -180,7 +180,7 @@ fn check_step(
     requires few { length hints.now < number_limit }
     requires clear { assignment.old ≡ replicate (length assignment.old) None }
     ensures answer { IfOk result (λ o.
-        o ≡ hint_that_fails problem.now earlier.now (spec.step_of clause.now hints.now)) }
+        o ≡ hint_that_fails problem.now earlier.now (step_of clause.now hints.now)) }
     ensures clear { assignment.new ≡ replicate (length assignment.new) None }
 {
     make_assignment(alloc, assignment, problem.atoms() as usize)?;
@@ -233,7 +233,7 @@ fn push_step(
 
 /// The step with this clause and these hints.
 fn copy_step(alloc: Global, clause: &[Lit], hints: &[Hint]) -> Result<Step, AllocError>
-    ensures { IfOk result (λ s. s ≡ spec.step_of clause.now hints.now) }
+    ensures { IfOk result (λ s. s ≡ step_of clause.now hints.now) }
 {
     Ok(Step {
         clause: Lits::from_slice(alloc, clause)?,

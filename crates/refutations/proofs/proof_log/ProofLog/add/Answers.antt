@@ -1,7 +1,6 @@
 use Rattle.std.proofs.Common.{◌≡◌, ◌∙◌, inl, None, Some, sym}
-use Rattle.count_core.specs.Steps.{IsAccepted, failing_hint}
+use Rattle.count_core.specs.Steps.{step_of, IsAccepted, failing_hint}
 use Rattle.count_core.proofs.Renumbering.{push_accepted}
-use Rattle.refutations.specs.Derivations.{step_of}
 use Rattle.refutations.proofs.LastSteps.{clause_pushed}
 use Rattle.refutations.proofs.proof_log.ProofLog.add.Goals as goal
 
