@@ -24,6 +24,7 @@ pub where_so : (b c : Bool) → (b ≡ true → c ≡ true) → (if b then c els
 where_so true c h = h refl
 where_so false c h = refl
 
+-- what it says where the other holds
 pub then_so : (b c : Bool) → b ≡ true → (if b then c else true) ≡ true → c ≡ true
 then_so true c e h = h
 then_so false c e h = cc
