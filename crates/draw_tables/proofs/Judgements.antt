@@ -217,23 +217,27 @@ judgement_of file table rule first second verdict is h = record {
 
 -- the verdict after each pass, and after all
 module _ (file : DrawFile) (table : List TeamId) where
-  -- the verdict where a pass found something, and where none did
+  -- rule 1 is broken
   pub judged_1 : (found : TeamId × ℕ) (verdict : Verdict)
       → first_not_once table (winners file) ≡ Some found → verdict ≡ Broken 1 found.0.0 found.1 → IsJudgement file (pairs_of table) verdict
   judged_1 (w, n) verdict e v = judgement_of file (pairs_of table) 1 w.0 n verdict v (first_of_rule_1 file table w n e)
 
   module _ (pair : TeamId × TeamId) (verdict : Verdict) (none : NoneNotOnce file table) where
+    -- rule 2 is broken, and rule 1 is not
     pub judged_2 : first_pair (breaks file Letters) (runners_up file) table ≡ Some pair → verdict ≡ Broken 2 pair.0.0 pair.1.0 → IsJudgement file (pairs_of table) verdict
     judged_2 e v = judgement_of file (pairs_of table) 2 pair.0.0 pair.1.0 verdict v (first_of_rule_2 file table pair.0 pair.1 none e)
 
+    -- rule 3 is broken, and no earlier one is
     pub judged_3 : NonePairs file table Letters
         → first_pair (breaks file Tags) (runners_up file) table ≡ Some pair → verdict ≡ Broken 3 pair.0.0 pair.1.0 → IsJudgement file (pairs_of table) verdict
     judged_3 letters e v = judgement_of file (pairs_of table) 3 pair.0.0 pair.1.0 verdict v (first_of_rule_3 file table pair.0 pair.1 none letters e)
 
+    -- rule 4 is broken, and no earlier one is
     pub judged_4 : NonePairs file table Letters → NonePairs file table Tags
         → first_pair (breaks file Forbidden) (runners_up file) table ≡ Some pair → verdict ≡ Broken 4 pair.0.0 pair.1.0 → IsJudgement file (pairs_of table) verdict
     judged_4 letters tags e v = judgement_of file (pairs_of table) 4 pair.0.0 pair.1.0 verdict v (first_of_rule_4 file table pair.0 pair.1 none letters tags e)
 
+  -- no rule is broken
   pub judged_legal : HasForm file → IsPairTableOf file table → NoneNotOnce file table
       → NonePairs file table Letters → NonePairs file table Tags → NonePairs file table Forbidden → IsJudgement file (pairs_of table) Legal
   judged_legal formed of_file none letters tags forbidden = record {

@@ -3,7 +3,6 @@
 pub mod Numbers
 -- items of lists by their places
 pub mod Lists
-
 -- ---- pots
 -- a pass over the file's teams, one team at a time
 pub mod PotSteps
@@ -13,7 +12,6 @@ pub mod PotOrder
 pub mod PotMembers
 -- half of the teams of a pairing are runners-up
 pub mod HalfOfTeams
-
 -- ---- states and offers
 -- the teams of pots and the candidates are of the file
 pub mod FileTeams
@@ -23,7 +21,6 @@ pub mod NamedTeams
 pub mod StateMoves
 -- a state has one offer, which has exactly the possible choices
 pub mod OfferLaws
-
 -- ---- rules and verdicts
 -- rules 2 to 4 for one pair
 pub mod PairRules
@@ -37,7 +34,6 @@ pub mod PassSteps
 pub mod RuleCases
 -- what the passes of a judgement say of the table, and the laws of verdicts
 pub mod Judgements
-
 -- ---- the text of a table
 -- one more code is read of a text
 pub mod ItemSteps

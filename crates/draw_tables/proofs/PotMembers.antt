@@ -60,7 +60,7 @@ among_pot pot i (u ∷ ts) x h = go (λ g. among_pot pot (i + 1) ts x g) (u.pot 
 
 -- ---- those that have a property
 
--- an item with the property is kept, and what is kept is an item with it
+-- an item with the property is kept
 pub kept_among : (p : TeamId → Bool) (xs : List TeamId) (x : TeamId) → IsAmong xs x → p x ≡ true → IsAmong (filter p xs) x
 kept_among p xs x h is = at xs h.0 h.1
   where
@@ -69,6 +69,7 @@ kept_among p xs x h is = at xs h.0 h.1
     at (y ∷ ys) zero e = let same : x ≡ y = cc in rw same (here y (filter p ys) (p y) (ap p (sym same) ∙ is))
     at (y ∷ ys) (suc k) e = later y (filter p ys) (p y) x (at ys k e)
 
+-- what is kept is an item with the property
 pub among_kept : (p : TeamId → Bool) (xs : List TeamId) (x : TeamId) → IsAmong (filter p xs) x → (p x ≡ true) × IsAmong xs x
 among_kept p [] x h = absurd (none_among x h)
 among_kept p (y ∷ ys) x h = go (λ g. among_kept p ys x g) (p y) refl h.0 h.1
@@ -83,7 +84,7 @@ among_kept p (y ∷ ys) x h = go (λ g. among_kept p ys x g) (p y) refl h.0 h.1
 
 -- ---- choices
 
--- a team is among teams exactly where its choice is among their choices
+-- the choice of a team among teams is among their choices
 pub choice_among : (ts : List TeamId) (t : TeamId) → IsAmong ts t → IsAmong (map (λ s. Choice.Team s) ts) (Choice.Team t)
 choice_among ts t h = at ts h.0 h.1
   where
@@ -92,6 +93,7 @@ choice_among ts t h = at ts h.0 h.1
     at (s ∷ ss) zero e = let same : s ≡ t = cc in (0, ap (λ y. Some (Choice.Team y)) same)
     at (s ∷ ss) (suc k) e = let found = at ss k e in (suc found.0, found.1)
 
+-- a team whose choice is among the choices of teams is among them
 pub among_choices : (ts : List TeamId) (t : TeamId) → IsAmong (map (λ s. Choice.Team s) ts) (Choice.Team t) → IsAmong ts t
 among_choices ts t h = at ts h.0 h.1
   where

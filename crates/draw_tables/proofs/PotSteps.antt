@@ -1,6 +1,6 @@
 -- One more team is looked at.
 use Rattle.std.proofs.Common.{◌≡◌, ℕ, zero, suc, ◌+◌, Bool, true, false, List, [], ◌∷◌, ◌++◌, drop, Some, slice_get, arith, refl, append_assoc}
-use Rattle.std.specs.Prelude.{filter, ◌==◌}
+use Rattle.std.specs.Prelude.{filter}
 use Rattle.std.proofs.lemmas.Bool.{eq-eqb, ne_eqb}
 use Rattle.team_files.specs.declared.team.Team.{Team}
 use Rattle.team_files.specs.declared.team_id.TeamId.{TeamId}
@@ -26,9 +26,10 @@ module _ (pot i : ℕ) (ts : List Team) (t : Team) (is : slice_get ts i ≡ Some
       → new ++ pot_from pot (i + 1) (drop (i + 1) ts) ≡ whole
   pot_pushed found new whole e new_is so_far = rw (new_is, append_assoc) (rw (pot_has e) at so_far)
 
--- what is kept of one more item
+-- an item with the property is kept
 pub kept : (p : TeamId → Bool) (x : TeamId) (xs : List TeamId) → p x ≡ true → filter p (x ∷ xs) ≡ x ∷ filter p xs
 kept p x xs e = rw e refl
 
+-- another one is left out
 pub left_out : (p : TeamId → Bool) (x : TeamId) (xs : List TeamId) → p x ≡ false → filter p (x ∷ xs) ≡ filter p xs
 left_out p x xs e = rw e refl

@@ -144,20 +144,23 @@ pub both_are : (test : Team → Team → Bool) (o p : Option Team) (a b : Team) 
 both_are test o p a b e f = rw (e, f) refl
 
 module _ (file : DrawFile) (table : List TeamId) where
-  -- a pair of the table that breaks a rule is a case of it, and the other way round
+  -- a pair of the table that the test of letters finds is a case of rule 2
   pub letters_broken : (r w : TeamId) → GivesOpponent file table r w → breaks file Letters r w ≡ true → HaveOneLetter file table r.0 w.0
   letters_broken r w gives e =
       let h = both_hold have_same_letter (slice_get file.teams r.0) (slice_get file.teams w.0) e in
       record { pair = gives; runner_up = h.0; winner = h.1; is_runner_up = h.2; is_winner = h.3; letter = h.4 }
 
+  -- a pair that the test of tags finds is a case of rule 3
   pub tags_broken : (r w : TeamId) → GivesOpponent file table r w → breaks file Tags r w ≡ true → HaveOneTag file table r.0 w.0
   tags_broken r w gives e =
       let h = both_hold have_common_tag (slice_get file.teams r.0) (slice_get file.teams w.0) e in
       record { pair = gives; runner_up = h.0; winner = h.1; is_runner_up = h.2; is_winner = h.3; tag = h.4 }
 
+  -- the test of letters finds each case of rule 2
   pub letters_break : (f s : ℕ) → HaveOneLetter file table f s → breaks file Letters (team_at f) (team_at s) ≡ true
   letters_break f s h = both_are have_same_letter (slice_get file.teams f) (slice_get file.teams s) h.runner_up h.winner h.is_runner_up h.is_winner ∙ h.letter
 
+  -- the test of tags finds each case of rule 3
   pub tags_break : (f s : ℕ) → HaveOneTag file table f s → breaks file Tags (team_at f) (team_at s) ≡ true
   tags_break f s h = both_are have_common_tag (slice_get file.teams f) (slice_get file.teams s) h.runner_up h.winner h.is_runner_up h.is_winner ∙ h.tag
 

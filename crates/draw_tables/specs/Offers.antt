@@ -56,5 +56,5 @@ OfferedWherePossible = (file : DrawFile) (ms : List Move) (os : List Choice) (c 
 abbrev pub OfferWhereDecided : Type 0
 OfferWhereDecided = (file : DrawFile) (ms : List Move)
     → ((m : Move) → IsCandidateMove file ms m
-        → IsCompletable file (ms ++ m ∷ []) ⊎ ¬ IsCompletable file (ms ++ m ∷ []))
+    → IsCompletable file (ms ++ m ∷ []) ⊎ ¬ IsCompletable file (ms ++ m ∷ []))
     → (os : List Choice) × IsOffer file ms os

@@ -36,7 +36,11 @@ fn candidates_in(
 }
 
 /// The runners-up that were not drawn, in file order.
-fn undrawn_runners_up(alloc: Global, file: &DrawFile, moves: &[Move]) -> Result<Vec<Choice>, NoMemory>
+fn undrawn_runners_up(
+    alloc: Global,
+    file: &DrawFile,
+    moves: &[Move],
+) -> Result<Vec<Choice>, NoMemory>
     ensures { IfOk result (λ choices.
         choices.items ≡ team_choices (undrawn_runners_up file.now moves.now)) }
 {

@@ -5,6 +5,6 @@ pub enum PairRule {
     Letters,
     /// Rule 3: they have no tag in common.
     Tags,
-    /// Rule 4: they are no forbidden pair.
+    /// Rule 4: they are not a forbidden pair.
     Forbidden,
 }

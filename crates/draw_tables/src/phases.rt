@@ -56,27 +56,21 @@ fn last_drawn(moves: &[Move]) -> Option<TeamId>
 fn has_opponent(moves: &[Move], runner: TeamId) -> bool
     ensures { result ≡ has_opponent runner moves.now }
 {
-    moves
-        .iter()
-        .any(|step| matches!(*step, Move::Paired(other, _) if other == runner))
+    moves.iter().any(|step| matches!(*step, Move::Paired(other, _) if other == runner))
 }
 
 /// Whether the team was drawn.
 pub(crate) fn is_drawn(moves: &[Move], team: TeamId) -> bool
     ensures { result ≡ is_drawn team moves.now }
 {
-    moves
-        .iter()
-        .any(|step| matches!(*step, Move::Drawn(other) if other == team))
+    moves.iter().any(|step| matches!(*step, Move::Drawn(other) if other == team))
 }
 
 /// Whether the winner is paired.
 pub(crate) fn is_paired(moves: &[Move], winner: TeamId) -> bool
     ensures { result ≡ is_paired winner moves.now }
 {
-    moves
-        .iter()
-        .any(|step| matches!(*step, Move::Paired(_, other) if other == winner))
+    moves.iter().any(|step| matches!(*step, Move::Paired(_, other) if other == winner))
 }
 
 /// Whether each runner-up was drawn.

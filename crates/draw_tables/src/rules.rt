@@ -7,7 +7,7 @@ use rule_sets::{DrawFile, Pair};
 use team_files::{Tag, Team, TeamId};
 
 /// Whether no rule forbids the runner-up and the winner directly to meet: they come from different
-/// first-round groups, have no tag in common and are no forbidden pair.
+/// first-round groups, have no tag in common and are not a forbidden pair.
 pub fn may_meet(file: &DrawFile, runner: TeamId, winner: TeamId) -> bool
     requires runner { runner.0 < length file.now.teams }
     requires winner { winner.0 < length file.now.teams }

@@ -64,19 +64,22 @@ module _ {X : Type 0} (f : ℕ → X) where
       let s : a + 1 + k ≡ a + suc k = omega arith in
       (omega (arith, rest.0), rest.1 ∙ ap f s)
 
-  -- the same for the numbers below n
+  -- what holds of the image of each number below n holds of each image
   pub each_below : (P : X → Type 0) (n : ℕ) → ((j : ℕ) → j < n → P (f j)) → Each P (map f (range_with_len 0 n))
   each_below P n h = each_number P 0 n (λ j low high. h j (omega arith))
 
+  -- and the other way round
   pub below_each : (P : X → Type 0) (n : ℕ) → Each P (map f (range_with_len 0 n)) → (j : ℕ) → j < n → P (f j)
   below_each P n h j lt = number_each P 0 n h j (omega arith) (omega arith)
 
+  -- the image at a place is that of the place
   pub below_at : (n k : ℕ) (x : X) → slice_get (map f (range_with_len 0 n)) k ≡ Some x → (k < n) × (x ≡ f k)
   below_at n k x e = let h = number_at 0 n k x e in let s : 0 + k ≡ k = omega arith in (h.0, h.1 ∙ ap f s)
 
 -- ---- how many pass a test
 
 module _ {X : Type 0} (p : X → Bool) (f : ℕ → X) where
+  -- how many images pass
   abbrev pub number : ℕ → ℕ → ℕ
   number a n = count_by p (map f (range_with_len a n))
 
@@ -172,7 +175,7 @@ module _ {X : Type 0} (p : X → Bool) (f : ℕ → X) where
     pub passes : p (f at) ≡ true
     pub only : (j : ℕ) → j < n → p (f j) ≡ true → j ≡ at
 
-  -- exactly one passes where one is counted, and the other way round
+  -- where exactly one passes, one is counted
   pub one_below : (n : ℕ) → OneBelow n → number 0 n ≡ 1
   one_below n one = one_true 0 n (record {
     at = one.at;
@@ -182,6 +185,7 @@ module _ {X : Type 0} (p : X → Bool) (f : ℕ → X) where
     only = λ j low high t. one.only j (omega arith) t;
   })
 
+  -- where one is counted, exactly one passes
   pub below_one : (n : ℕ) → number 0 n ≡ 1 → OneBelow n
   below_one n h =
       let found = one_found 0 n h in

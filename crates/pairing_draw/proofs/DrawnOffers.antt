@@ -1,5 +1,5 @@
 -- A drawn ball says nothing of the table, so where a runner-up is drawn all candidates have one answer.
-use Rattle.std.proofs.Common.{◌≡◌, ℕ, List, [], ◌∷◌, ◌++◌, Some, slice_get, refl}
+use Rattle.std.proofs.Common.{◌≡◌, List, [], ◌∷◌, ◌++◌, Some, refl}
 use Rattle.team_files.specs.declared.team_id.TeamId.{TeamId}
 use Rattle.rule_sets.specs.Files.{DrawFile}
 use Rattle.draw_tables.specs.declared.moves.Choice.{Choice}
@@ -39,9 +39,10 @@ module _ (file : DrawFile) (ms : List Move) (draws : (c : Choice) → IsAmong (c
   possible : IsCompletable file ms → (c : Choice) → IsAmong (candidates file ms) c → IsPossible file ms c
   possible h c among = let d = draws c among in (Drawn d.0, (among, d.1), (h.0, h.1, with_drawn file h.0 d.0 ms h.2))
 
-  -- all candidates are offered, or none
+  -- where the moves can be completed, all candidates are offered
   pub all_offered : IsCompletable file ms → IsOffer file ms (candidates file ms)
   all_offered h = pick_all (IsPossible file ms) (candidates file ms) (possible h)
 
+  -- and else none
   pub none_offered : (IsCompletable file ms → ⊥) → IsOffer file ms []
   none_offered none = pick_none (IsPossible file ms) (candidates file ms) (λ c h. none (completable file ms c h))

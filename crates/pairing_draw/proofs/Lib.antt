@@ -7,7 +7,6 @@ pub mod SearchSteps
 pub mod WinnerRanks
 -- the ranks that the search finds are those of the legal tables that extend the moves
 pub mod SearchTables
-
 -- ---- offers
 -- one more choice is looked at, and all or none are picked
 pub mod OfferSteps
@@ -15,7 +14,6 @@ pub mod OfferSteps
 pub mod DrawnOffers
 -- each state of a pairing has an offer
 pub mod Existence
-
 -- ---- the count problem
 -- atoms as numbers, and lists over the numbers below n
 pub mod AtomNumbers
@@ -25,7 +23,6 @@ pub mod PlacedLists
 pub mod FormedRules
 -- a state's pairs are of the file and pair each winner once, and so are their literals
 pub mod StateMoves
-
 -- ---- tables and assignments
 -- the values of a legal table satisfy the rules and the literals of the moves that it extends
 pub mod TableValues

@@ -24,11 +24,12 @@ picked_all P all out i end so_far = let h = so_far [] (rw (drop_all i all end) t
 
 -- ---- all or none
 
--- all items are picked, or none
+-- where each item has the property, all are picked
 pub pick_all : {A : Type 0} (P : A → Type 0) (xs : List A) → ((x : A) → IsAmong xs x → P x) → Picks P xs xs
 pick_all P [] h = tt
 pick_all P (x ∷ xs) h = inl (h x (0, refl), (xs, refl, pick_all P xs (λ y among. h y (suc among.0, among.1))))
 
+-- where none has it, none are
 pub pick_none : {A : Type 0} (P : A → Type 0) (xs : List A) → ((x : A) → P x → ⊥) → Picks P xs []
 pick_none P [] h = tt
 pick_none P (x ∷ xs) h = inr (h x, pick_none P xs h)

@@ -1,6 +1,6 @@
 -- Lists with their places, joined and filtered lists, and the places of teams.
 use Rattle.std.proofs.Common.{◌≡◌, ℕ, zero, suc, ◌+◌, ◌*◌, ◌≤◌, Bool, true, false, cond, List, [], ◌∷◌, ◌++◌, length, map, Some, slice_get, ◌⊎◌, inl, inr, refl, ap, ◌∙◌, arith, length-append}
-use Rattle.std.specs.Prelude.{filter, ◌==◌, if◌then◌else◌}
+use Rattle.std.specs.Prelude.{filter, ◌==◌}
 use Rattle.std.specs.List.{enumerate_from, flat_map, AllByRecursion as Each}
 use Rattle.std.proofs.lemmas.Bool.{cases_Bool, eqb-true, eq-eqb}
 use Rattle.std.proofs.lemmas.List.{length-map}
@@ -13,21 +13,23 @@ use Rattle.pairing_draw.specs.Encoding.{place_of}
 
 -- ---- lists
 
--- what holds of each item of two lists holds of each of the joined one, and the other way round
+-- what holds of each item of two lists holds of each of the joined list
 pub each_append : {X : Type 0} (P : X → Type 0) (xs ys : List X) → Each P xs → Each P ys → Each P (xs ++ ys)
 each_append P [] ys h g = g
 each_append P (x ∷ xs) ys h g = (h.0, each_append P xs ys h.1 g)
 
+-- and the other way round
 pub each_split : {X : Type 0} (P : X → Type 0) (xs ys : List X) → Each P (xs ++ ys) → Each P xs × Each P ys
 each_split P [] ys h = (tt, h)
 each_split P (x ∷ xs) ys h = let rest = each_split P xs ys h.1 in ((h.0, rest.0), rest.1)
 
--- an item of the first or of the second of two joined lists
+-- an item of the first of two joined lists
 pub get_left : {X : Type 0} (xs ys : List X) (k : ℕ) (x : X) → slice_get xs k ≡ Some x → slice_get (xs ++ ys) k ≡ Some x
 get_left [] ys k x e = cc
 get_left (y ∷ xs) ys zero x e = e
 get_left (y ∷ xs) ys (suc k) x e = get_left xs ys k x e
 
+-- an item of the second
 pub get_right : {X : Type 0} (xs ys : List X) (n k : ℕ) → n ≡ length xs + k → slice_get (xs ++ ys) n ≡ slice_get ys k
 get_right [] ys n k e = ap (slice_get ys) (let q : n ≡ k = omega arith in q)
 get_right (x ∷ xs) ys zero k e = absurd (omega arith)
@@ -48,7 +50,7 @@ get_joined piece n size (b ∷ xs) (suc i) w a x e f =
 -- ---- lists with places
 
 module _ {A X : Type 0} (P : X → Type 0) where
-  -- what holds of each item with its place that passes a test, and the other way round
+  -- what holds of each item with its place that passes a test holds of each that is kept
   pub each_of_places : (f : ℕ × A → X) (p : ℕ × A → Bool) (a : ℕ) (xs : List A)
       → ((j k : ℕ) (x : A) → j ≡ a + k → slice_get xs k ≡ Some x → p (j, x) ≡ true → P (f (j, x)))
       → Each P (map f (filter p (enumerate_from a xs)))
@@ -59,6 +61,7 @@ module _ {A X : Type 0} (P : X → Type 0) where
       by_cases true here rest = (here refl, rest)
       by_cases false here rest = rest
 
+  -- and the other way round
   pub place_of_each : (f : ℕ × A → X) (p : ℕ × A → Bool) (a : ℕ) (xs : List A)
       → Each P (map f (filter p (enumerate_from a xs)))
       → (j k : ℕ) (x : A) → j ≡ a + k → slice_get xs k ≡ Some x → p (j, x) ≡ true → P (f (j, x))
@@ -78,13 +81,14 @@ module _ {A X : Type 0} (P : X → Type 0) where
       by_cases true each = each.1
       by_cases false each = each
 
-  -- what holds of each item of the lists of items with their places, and the other way round
+  -- what holds of each item of the lists that items with their places give holds of each joined one
   pub each_joined : (f : ℕ × A → List X) (a : ℕ) (xs : List A)
       → ((j k : ℕ) (x : A) → j ≡ a + k → slice_get xs k ≡ Some x → Each P (f (j, x)))
       → Each P (flat_map f (enumerate_from a xs))
   each_joined f a [] h = tt
   each_joined f a (x ∷ xs) h = each_append P (f (a, x)) (flat_map f (enumerate_from (a + 1) xs)) (h a zero x (omega arith) refl) (each_joined f (a + 1) xs (λ j k y e g. h j (suc k) y (omega arith) g))
 
+  -- and the other way round
   pub joined_each : (f : ℕ × A → List X) (a : ℕ) (xs : List A)
       → Each P (flat_map f (enumerate_from a xs))
       → (j k : ℕ) (x : A) → j ≡ a + k → slice_get xs k ≡ Some x → Each P (f (j, x))

@@ -171,10 +171,11 @@ read_teams file values m ws table h read = are_teams file table (λ r x e. let a
 
 -- ---- the reading, runner-up by runner-up
 
--- none is read at first, and then one more
+-- at first none is read
 pub read_none : (values : List Bool) (ws : List TeamId) → IsRead values 0 ws []
 read_none values ws = record { size = refl; atoms = λ r given e. cc }
 
+-- and then one more
 pub read_more : (values : List Bool) (m : ℕ) (ws table more : List TeamId) (given : TeamId) → IsRead values m ws table
     → IsTrueWinner values ws m given
     → more ≡ table ++ given ∷ [] → IsRead values (m + 1) ws more

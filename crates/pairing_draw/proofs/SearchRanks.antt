@@ -18,12 +18,13 @@ free_before (o ∷ p) zero (suc k) e = (e, λ f. cc)
 free_before (o ∷ p) (suc a) zero e = (e, λ f. cc)
 free_before (o ∷ p) (suc a) (suc k) e = let r = free_before p a k e in (r.0, λ f. r.1 (omega arith))
 
--- at first each rank below n is free
+-- at first no rank but those below n is free
 pub free_within : (n k : ℕ) → slice_get (replicate n false) k ≡ Some false → k < n
 free_within zero k e = cc
 free_within (suc n) zero e = omega arith
 free_within (suc n) (suc k) e = let h = free_within n k e in omega arith
 
+-- and each of these is
 pub within_free : (n k : ℕ) → k < n → slice_get (replicate n false) k ≡ Some false
 within_free zero k lt = absurd (omega arith)
 within_free (suc n) zero lt = refl
@@ -50,7 +51,7 @@ pub record Ranked (rows : List (List Bool)) (taken : List Bool) (ks : List ℕ) 
   pub free : (i k : ℕ) → slice_get ks i ≡ Some k → slice_get taken k ≡ Some false
   pub given : (k : ℕ) → slice_get taken k ≡ Some false → (i : ℕ) × (slice_get ks i ≡ Some k)
 
--- ranks that finish are such, and the other way round
+-- ranks that finish are such
 pub ranked : (rows : List (List Bool)) (taken : List Bool) (ks : List ℕ) → Finishes rows taken ks → Ranked rows taken ks
 ranked [] taken [] h = record {
   size = refl;
@@ -92,6 +93,7 @@ ranked (row ∷ rows) taken (k ∷ ks) h =
     all_free rest zero x e = let b : k ≡ x = cc in rw (← b) h.1
     all_free rest (suc i) x e = (free_before taken k x (rest.free i x e)).0
 
+-- and the other way round
 pub finishes : (rows : List (List Bool)) (taken : List Bool) (ks : List ℕ) → Ranked rows taken ks → Finishes rows taken ks
 finishes [] taken [] h = none_left taken (λ k e. let found = h.given k e in no_entry found.0 k found.1)
 finishes [] taken (k ∷ ks) h = absurd (omega (arith, h.size))

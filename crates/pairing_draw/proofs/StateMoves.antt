@@ -1,9 +1,10 @@
 -- The pairs of a state: a runner-up and a winner of the file, and no winner twice.
-use Rattle.std.proofs.Common.{◌≡◌, ℕ, ◌+◌, ◌*◌, ◌<◌, Bool, true, false, not, List, [], ◌∷◌, ◌++◌, length, Option, Some, None, slice_get, ◌⊎◌, inl, inr, refl, sym, ap, ◌∙◌, subst}
+use Rattle.std.proofs.Common.{◌≡◌, ◌+◌, ◌*◌, ◌<◌, Bool, true, false, not, List, [], ◌∷◌, ◌++◌, length, Option, Some, None, slice_get, ◌⊎◌, inl, inr, refl, sym, ap, ◌∙◌, subst}
 use Rattle.std.specs.Prelude.{◌==◌, ◌||◌, option_and_then}
 use Rattle.std.specs.List.{list_any, AllByRecursion as Each}
 use Rattle.std.specs.Option.{option_or}
-use Rattle.std.proofs.lemmas.Bool.{cases_Bool, eqb-true, eq-eqb, false_from_ne_true}
+use Rattle.std.proofs.lemmas.Bool.{cases_Bool, eqb-true, eq-eqb, false_from_ne_true, or_left, or_right}
+use Rattle.std.proofs.lemmas.List.Folds.{list_any-append}
 use Rattle.std.proofs.lemmas.Option.{slice_get_within}
 use Rattle.team_files.specs.declared.kind.Kind.{Kind}
 use Rattle.team_files.specs.declared.team_id.TeamId.{TeamId}
@@ -32,20 +33,10 @@ use Rattle.pairing_draw.proofs.PlacedLists.{place_found}
 -- ---- lists
 
 any_more : {A : Type 0} (p : A → Bool) (xs ys : List A) → list_any p xs ≡ true → list_any p (xs ++ ys) ≡ true
-any_more p [] ys e = cc
-any_more p (x ∷ xs) ys e = by_cases (p x) e (any_more p xs ys)
-  where
-    by_cases : (b : Bool) → (b || list_any p xs) ≡ true → (list_any p xs ≡ true → list_any p (xs ++ ys) ≡ true) → (b || list_any p (xs ++ ys)) ≡ true
-    by_cases true e rest = refl
-    by_cases false e rest = rest e
+any_more p xs ys e = rw (list_any-append p xs ys) (or_left (list_any p xs) (list_any p ys) e)
 
 any_last : {A : Type 0} (p : A → Bool) (xs : List A) (x : A) → p x ≡ true → list_any p (xs ++ x ∷ []) ≡ true
-any_last p [] x e = rw e refl
-any_last p (y ∷ xs) x e = by_cases (p y) (any_last p xs x e)
-  where
-    by_cases : (b : Bool) → list_any p (xs ++ x ∷ []) ≡ true → (b || list_any p (xs ++ x ∷ [])) ≡ true
-    by_cases true h = refl
-    by_cases false h = h
+any_last p xs x e = rw (list_any-append p xs (x ∷ [])) (or_right (list_any p xs) (p x || false) (or_left (p x) false e))
 
 -- ---- the teams of the moves
 

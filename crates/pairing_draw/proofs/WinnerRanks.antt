@@ -1,5 +1,5 @@
 -- The ranks of a table's teams in the list of the winners.
-use Rattle.std.proofs.Common.{Bool, List, Some, [], ap, arith, false, inl, inr, length, map, not, refl, slice_get, suc, sym, true, zero, ℕ, ◌<◌, ◌∙◌, ◌∷◌, ◌≡◌, ◌⊎◌}
+use Rattle.std.proofs.Common.{Bool, List, Some, [], ap, arith, false, inl, inr, length, map, refl, slice_get, suc, sym, true, zero, ℕ, ◌<◌, ◌∙◌, ◌∷◌, ◌≡◌, ◌⊎◌}
 use Rattle.std.specs.Prelude.{◌==◌, if◌then◌else◌}
 use Rattle.std.specs.List.{list_any}
 use Rattle.std.specs.Option.{option_map}
@@ -24,6 +24,7 @@ pub where_so : (b c : Bool) → (b ≡ true → c ≡ true) → (if b then c els
 where_so true c h = h refl
 where_so false c h = refl
 
+-- what it says where the other holds
 pub then_so : (b c : Bool) → b ≡ true → (if b then c else true) ≡ true → c ≡ true
 then_so true c e h = h
 then_so false c e h = cc

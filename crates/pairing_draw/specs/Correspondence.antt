@@ -60,4 +60,4 @@ ValuesTellPairs = (file : DrawFile) (pairs : PairTable) (r w : ℕ) (runner_up w
     → IsTableOf file (Pairs pairs)
     → slice_get (runners_up file) r ≡ Some runner_up → slice_get (winners file) w ≡ Some winner
     → (IsTruePair file (values_of file (Pairs pairs)) r w
-        ↔ GivesOpponent file pairs.winners runner_up winner)
+    ↔ GivesOpponent file pairs.winners runner_up winner)

@@ -67,7 +67,7 @@ stands code ts id e =
     let place : t.0 ≡ id.0 = omega (arith, t.1) in
     subst (λ n. HasCodeAt (codes_of ts) n code) place t.2
 
--- distinct codes are different, and the other way round
+-- distinct codes are different
 pub to_different : (ts : List Team) → HaveDistinctCodes ts → AreDifferent (codes_of ts)
 to_different [] d i j code a b = cc
 to_different (t ∷ ts) d zero zero code a b = refl
@@ -75,6 +75,7 @@ to_different (t ∷ ts) d zero (suc j) code a b = let same : t.code ≡ code = c
 to_different (t ∷ ts) d (suc i) zero code a b = let same : t.code ≡ code = cc in absurd (nowhere t.code ts 0 i d.0 (rw same a))
 to_different (t ∷ ts) d (suc i) (suc j) code a b = ap (λ n. suc n) (to_different ts d.1 i j code a b)
 
+-- different codes are distinct
 pub from_different : (ts : List Team) → AreDifferent (codes_of ts) → HaveDistinctCodes ts
 from_different [] d = tt
 from_different (t ∷ ts) d = (
@@ -129,6 +130,7 @@ step earlier t ts fresh none k other lt at before = go (cases_order k (length ea
     go (inr (inl less)) = none k other less at before
     go (inr (inr more)) = let n = one_more earlier t in absurd (omega (arith, n, more, lt))
 
+-- the fault is of the first team whose code an earlier one has
 abbrev pub FirstRepeatTold : List Team → FileFault → Type 0
 FirstRepeatTold teams fault = IsOfFirstRepeat (codes_of teams) fault
 
@@ -173,7 +175,7 @@ silent earlier (t ∷ ts) whole is none e =
     go None f h rest = rest (subst (λ w. NoneBelow (codes_of w) (length (earlier ++ t ∷ []))) is (step earlier t ts f (rw (← is) at none))) h
     go (Some id) f h rest = cc
 
--- the fault names the first code that stands before itself, and no other is told
+-- the fault that is told is of the first code that stands before itself
 pub first_told : (teams : List Team) (fault : FileFault) → same_code_fault teams ≡ Some fault → FirstRepeatTold teams fault
 first_told teams fault e = told [] teams teams fault refl (λ k other lt at before. omega (arith, lt)) e
 
@@ -218,7 +220,7 @@ none_back teams d = go (same_code_fault teams) refl
         let same = d b.0 t.0 t.1 b.2 t.3.has in
         absurd (omega (arith, same, b.1))
 
--- where no code is told, codes are distinct, and the other way round
+-- where no code is told, codes are distinct
 pub distinct : (teams : List Team) → same_code_fault teams ≡ None → HaveDistinctCodes teams
 distinct teams e = from_different teams different
   where
@@ -238,6 +240,7 @@ distinct teams e = from_different teams different
         go (inr (inl less)) = absurd (none_told teams e j code (within j code b) b (i, less, a))
         go (inr (inr more)) = absurd (none_told teams e i code (within i code a) a (j, more, b))
 
+-- where codes are distinct, none is told
 pub not_repeated : (teams : List Team) → HaveDistinctCodes teams → same_code_fault teams ≡ None
 not_repeated teams d = none_back teams (to_different teams d)
 

@@ -25,6 +25,7 @@ use Rattle.team_files.specs.Faults.{kind_at, pots_at, team_values, pair_values, 
 
 -- ---- the fields of a team
 
+-- what reading one team says of its value
 abbrev pub TeamTold : Result TeamFields FileFault → Option FileFault → Option (List ℕ) → Option ℕ → Type 0
 TeamTold (Ok f) wrong code pot = (wrong ≡ None) × (code ≡ Some f.code) × (pot ≡ Some f.pot)
 TeamTold (Err g) wrong code pot = wrong ≡ Some g
@@ -44,6 +45,7 @@ team_parts (Some c) (Some n) (Some p) (Some t) (Some l) = (refl, refl, refl)
 team_told : (kind : Kind) (pots : ℕ) (d : Data) → TeamTold (team_fields kind pots d) (wrong_in_team kind pots d) (text_in (codes "code") d) (pot_in pots d)
 team_told kind pots d = team_parts (text_in (codes "code") d) (name_in d) (pot_in pots d) (tags_in (codes "tags") d) (letter_in kind d)
 
+-- what reading the teams says of their values
 abbrev pub TeamsTold : ℕ → Result (List TeamFields) FileFault → Option FileFault → List Data → Type 0
 TeamsTold pots (Ok fs) wrong ds = (wrong ≡ None) × (length fs ≡ length ds) × (map (λ f. f.code) fs ≡ map code_at ds) × (map (λ f. f.pot) fs ≡ map (pot_at pots) ds)
 TeamsTold pots (Err g) wrong ds = wrong ≡ Some g
@@ -95,6 +97,7 @@ pairs_length (Some v) ps e = go (list_of v) e
     go None h = cc
     go (Some ds) h = texts_length ds ps h
 
+-- what reading the members of a head says of its value
 abbrev pub FieldsTold : Result HeadFields FileFault → Option FileFault → Data → Type 0
 FieldsTold (Ok fields) wrong d =
     (wrong ≡ None)
@@ -154,6 +157,7 @@ abbrev bad_from : ℕ → List (List ℕ) → Option FileFault
 bad_from i [] = None
 bad_from i (c ∷ cs) = if is_code c then bad_from (i + 1) cs else Some (FileFault.BadCode i)
 
+-- what reading the codes says of the members of the teams
 abbrev pub CodesTold : Result (List Team) FileFault → Option FileFault → List TeamFields → Type 0
 CodesTold (Ok ts) bad fs = (bad ≡ None) × (codes_of ts ≡ map (λ f. f.code) fs) × (map (λ t. t.pot) ts ≡ map (λ f. f.pot) fs)
 CodesTold (Err g) bad fs = bad ≡ Some g

@@ -40,7 +40,7 @@ fn check_teams(kind: Kind, teams: &[Value]) -> Result<(), FileFault>
     Ok(())
 }
 
-/// A value that is no object lacks nothing.
+/// A value that is not an object lacks nothing.
 fn check_team(kind: Kind, team: &Value) -> Result<(), FileFault>
     ensures { result_err result ≡ missing_in_team kind (view team.now) }
 {

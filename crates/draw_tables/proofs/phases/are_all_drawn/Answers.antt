@@ -6,13 +6,16 @@ use Rattle.draw_tables.proofs.phases.are_all_drawn.Goals as goal
 use Rattle.draw_tables.proofs.phases.are_all_drawn.Goals.{else-get-eq2-via-then-get-eq2+else-not-is_drawn, else-get-eq2-via-else-get-eq2}
 
 pub returns-then-not-is_drawn : goal.returns-then-not-is_drawn
-returns-then-not-is_drawn c = (λ e. cc, λ none.
-    let i = c.loop-place.place in
-    let has = pot_has 2 i c.teams-teams.result.now c.get.result.now c.get.ensures c.if-get-eq2.true in
-    let free : is_drawn (record { 0 = i }) c.args.moves.now ≡ false = sym c.is_drawn.ensures ∙ c.if-not-is_drawn.true in
-    let stands = kept (λ r. not (is_drawn r c.args.moves.now)) (record { 0 = i }) (pot_from 2 (i + 1) (drop (i + 1) c.teams-teams.result.now)) (ap not free) in
-    let all = rw (has, stands) at c.loop-place.invariant in
-    cc)
+returns-then-not-is_drawn c = (
+  λ e. cc,
+  λ none.
+      let i = c.loop-place.place in
+      let has = pot_has 2 i c.teams-teams.result.now c.get.result.now c.get.ensures c.if-get-eq2.true in
+      let free : is_drawn (record { 0 = i }) c.args.moves.now ≡ false = sym c.is_drawn.ensures ∙ c.if-not-is_drawn.true in
+      let stands = kept (λ r. not (is_drawn r c.args.moves.now)) (record { 0 = i }) (pot_from 2 (i + 1) (drop (i + 1) c.teams-teams.result.now)) (ap not free) in
+      let all = rw (has, stands) at c.loop-place.invariant in
+      cc,
+)
 
 pub loop-place-preserved : goal.loop-place-preserved
 loop-place-preserved c =
