@@ -1,5 +1,6 @@
 use crate::{Checked, NoMemory, are_countable, check};
 use count_core::{Atom, CoreFault, CountRule, Hint, Hints, Lit, Lits, Problem, Step};
+use samples::CLASH;
 use std::alloc::Global;
 
 /// A rule of a table: its atoms, all positive, its `lo` and its `hi`.
@@ -7,21 +8,6 @@ type Row<'a> = (&'a [u32], u32, u32);
 
 /// A step of a table: the atoms of its clause with their signs, and its hints.
 type Line<'a> = (&'a [(u32, bool)], &'a [Hint]);
-
-/// Two pots of two teams in two groups: each team in one group, in each group one team of each pot,
-/// in each group at most one team.
-const CLASH: [Row<'static>; 10] = [
-    (&[0, 1], 1, 1),
-    (&[2, 3], 1, 1),
-    (&[4, 5], 1, 1),
-    (&[6, 7], 1, 1),
-    (&[0, 2], 1, 1),
-    (&[4, 6], 1, 1),
-    (&[1, 3], 1, 1),
-    (&[5, 7], 1, 1),
-    (&[0, 2, 4, 6], 0, 1),
-    (&[1, 3, 5, 7], 0, 1),
-];
 
 const RULE_4: Hint = Hint::Rule(4);
 

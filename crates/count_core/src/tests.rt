@@ -4,26 +4,12 @@ use crate::{
     law_clash_table, law_failing_hint, law_first_fault, law_refuted_questions_fail,
     law_satisfiability_decides, satisfied,
 };
+use samples::CLASH;
 use std::alloc::Global;
 use std::test::Fail;
 
 /// A rule of a table: its atoms, all positive, its `lo` and its `hi`.
 type Row<'a> = (&'a [u32], u32, u32);
-
-/// Two pots of two teams in two groups: each team in one group, in each group one team of each pot,
-/// in each group at most one team. No assignment satisfies all ten; the first eight can be met.
-const CLASH: [Row<'static>; 10] = [
-    (&[0, 1], 1, 1),
-    (&[2, 3], 1, 1),
-    (&[4, 5], 1, 1),
-    (&[6, 7], 1, 1),
-    (&[0, 2], 1, 1),
-    (&[4, 6], 1, 1),
-    (&[1, 3], 1, 1),
-    (&[5, 7], 1, 1),
-    (&[0, 2, 4, 6], 0, 1),
-    (&[1, 3, 5, 7], 0, 1),
-];
 
 /// So many atoms, rules over them, and the fault that building a problem of them reports, or none.
 const FAULTS: [(u32, &[Row<'static>], Option<CoreFault>); 9] = [

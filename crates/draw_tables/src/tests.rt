@@ -1,18 +1,14 @@
 use crate::{TableFault, Verdict, judge, read_table, table_text};
 use rule_sets::rules_from;
+use samples::ROUND_OF_16;
 use std::alloc::Global;
 use std::process::Abort;
 use std::test::Fail;
 use team_files::read_head;
 
-/// The teams of the round of 16 of 2021/22: the winners of the first-round groups A to H, which
-/// have the places 0 to 7, and the runners-up, which have the places 8 to 15.
-const ROUND_OF_16: &str =
-    r#"{"kind":"pairing","teams":[{"code":"MCI","pot":1,"tags":["ENG"],"group":"A"},{"code":"LIV","pot":1,"tags":["ENG"],"group":"B"},{"code":"AJX","pot":1,"tags":["NED"],"group":"C"},{"code":"RMA","pot":1,"tags":["ESP"],"group":"D"},{"code":"BAY","pot":1,"tags":["GER"],"group":"E"},{"code":"MUN","pot":1,"tags":["ENG"],"group":"F"},{"code":"LIL","pot":1,"tags":["FRA"],"group":"G"},{"code":"JUV","pot":1,"tags":["ITA"],"group":"H"},{"code":"PSG","pot":2,"tags":["FRA"],"group":"A"},{"code":"ATM","pot":2,"tags":["ESP"],"group":"B"},{"code":"SCP","pot":2,"tags":["POR"],"group":"C"},{"code":"INT","pot":2,"tags":["ITA"],"group":"D"},{"code":"BEN","pot":2,"tags":["POR"],"group":"E"},{"code":"VIL","pot":2,"tags":["ESP"],"group":"F"},{"code":"RBS","pot":2,"tags":["AUT"],"group":"G"},{"code":"CHE","pot":2,"tags":["ENG"],"group":"H"}]"#;
-
 /// Two teams with a tag in common that is the second of each.
 const TWO_TAGS: &str =
-    r#"{"kind":"pairing","teams":[{"code":"BBB","pot":2,"tags":["Y","Z"],"group":"B"},{"code":"AAA","pot":1,"tags":["X","Z"],"group":"A"}]"#;
+    r#"{"kind":"pairing","teams":[{"code":"BBB","pot":2,"tags":["Y","Z"],"group":"B"},{"code":"AAA","pot":1,"tags":["X","Z"],"group":"A"}]}"#;
 
 /// A legal table, the one that was drawn.
 const LEGAL: &str = "RMA MUN MCI LIV AJX JUV BAY LIL";
@@ -115,15 +111,17 @@ const NO_TABLES: [&str; 14] = [
     "RMAMUN MCI LIV AJX JUV BAY LIL",
 ];
 
-/// What is told of a text: the verdict on its table, or `None` where it is no table.
+/// What is told of a text, where the head has these forbidden pairs too: the verdict on its table, or
+/// `None` where it is no table.
 fn verdict_on(
     rt: &impl Abort,
     alloc: Global,
-    teams: &str,
+    head: &str,
     pairs: &str,
     text: &str,
 ) -> Result<Option<Verdict>, Fail> {
-    let head = format!(in alloc; "{teams},\"pairs\":[{pairs}]}}")?;
+    let members = head.strip_prefix("{").unwrap_or(head);
+    let head = format!(in alloc; "{{\"pairs\":[{pairs}],{members}")?;
     let file = rules_from(alloc, read_head(alloc, head.as_bytes())?)?;
     let table = match read_table(alloc, &file, text.as_bytes()) {
         Ok(table) => table,
@@ -140,7 +138,7 @@ fn verdict_on(
 
 #[test]
 fn tables_are_judged(rt: HostRuntime) -> Result<(), Fail> {
-    for (teams, pairs, text, (rule, first, second)) in TABLES {
+    for (head, pairs, text, (rule, first, second)) in TABLES {
         let verdict = if rule == 0 {
             Verdict::Legal
         } else {
@@ -150,7 +148,7 @@ fn tables_are_judged(rt: HostRuntime) -> Result<(), Fail> {
                 second,
             }
         };
-        let said = verdict_on(&rt, rt.alloc(), teams, pairs, text)?;
+        let said = verdict_on(&rt, rt.alloc(), head, pairs, text)?;
         assert_eq!(rt; said, Some(verdict), "{text} {pairs}");
     }
     Ok(())

@@ -1,7 +1,7 @@
 //! Calls that `run_draw` makes, each by itself on the round of 16 of 2021/22: in its file the winners
 //! stand at the places 0 to 7 and the runners-up at 8 to 15.
 
-use crate::tests::{ROUND_OF_16, TWO_TEAMS, file_of, fine, input, listed, start, turn_of, words};
+use crate::tests::{file_of, fine, input, listed, start, turn_of, words};
 use crate::turn::{Turn, offer_of};
 use crate::{Status, follow};
 use draw_lines::opening_text;
@@ -11,6 +11,7 @@ use draw_tables::{
     Choice, Move, Phase, is_candidate, may_meet, move_in, move_of, phase_of, teams_of_pot,
 };
 use rule_sets::DrawFile;
+use samples::{ROUND_OF_16, TWO_TEAMS};
 use std::alloc::{AllocError, Global};
 use std::test::Fail;
 use team_files::{Code, TeamId};

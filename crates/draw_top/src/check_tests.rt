@@ -1,7 +1,8 @@
 use crate::checking::run_check;
 use crate::status::Status;
-use crate::tests::{Outside, ROUND_OF_16, TWO_TEAMS, fine, input, listed, words};
+use crate::tests::{Outside, fine, input, listed, words};
 use draw_ports::{MemorySink, MemorySource};
+use samples::{ROUND_OF_16, TWO_TEAMS};
 use std::alloc::{AllocError, Global};
 use std::test::Fail;
 

@@ -2,12 +2,13 @@ ghost use Rattle.std.specs.Prelude.{◌≡◌, true, IfOk};
 ghost use Rattle.count_core.specs.Assignments.{makes_true, Satisfies, SatisfiesQuestion};
 ghost use Rattle.pairing_draw.specs.Encoding.{lits_of_moves, rules_of};
 
-use crate::tests::{ROUND_OF_16, TWO_TEAMS, file_of, start};
+use crate::tests::{file_of, start};
 use count_core::{Lit, Problem, satisfied};
 use draw_state::State;
 use draw_tables::{Move, Table};
 use pairing_draw::{decode, encode, lits_of};
 use rule_sets::DrawFile;
+use samples::{ROUND_OF_16, TWO_TEAMS};
 use std::alloc::{AllocError, Global};
 use std::test::Fail;
 use team_files::{Kind, TeamId};

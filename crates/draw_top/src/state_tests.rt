@@ -1,8 +1,9 @@
-use crate::tests::{ROUND_OF_16, TWO_TEAMS, start, turn_of};
+use crate::tests::{start, turn_of};
 use crate::turn::Turn;
 use draw_lines::{read_line, reply_text};
 use draw_state::{State, StateFault};
 use draw_tables::{Choice, Move, Phase};
+use samples::{ROUND_OF_16, TWO_TEAMS};
 use std::alloc::{AllocError, Global};
 use std::test::Fail;
 use team_files::TeamId;

@@ -22,17 +22,12 @@ use rule_sets::{
     DrawFile, law_files_have_form, law_files_have_pairs, law_first_bad_pair,
     law_first_fault_of_bytes, read_file,
 };
+use samples::{ROUND_OF_16, TWO_TEAMS};
 use std::alloc::{AllocError, Global};
 use std::sync::Wait;
 use std::test::Fail;
 use std::thread::Threads;
 use team_files::{FileFault, Kind, law_find_by_code, law_first_fault, law_same_code};
-
-pub(crate) const ROUND_OF_16: &str =
-    r#"{"kind":"pairing","teams":[{"code":"MCI","pot":1,"tags":["ENG"],"group":"A"},{"code":"LIV","pot":1,"tags":["ENG"],"group":"B"},{"code":"AJX","pot":1,"tags":["NED"],"group":"C"},{"code":"RMA","pot":1,"tags":["ESP"],"group":"D"},{"code":"BAY","pot":1,"tags":["GER"],"group":"E"},{"code":"MUN","pot":1,"tags":["ENG"],"group":"F"},{"code":"LIL","pot":1,"tags":["FRA"],"group":"G"},{"code":"JUV","pot":1,"tags":["ITA"],"group":"H"},{"code":"PSG","pot":2,"tags":["FRA"],"group":"A"},{"code":"ATM","pot":2,"tags":["ESP"],"group":"B"},{"code":"SCP","pot":2,"tags":["POR"],"group":"C"},{"code":"INT","pot":2,"tags":["ITA"],"group":"D"},{"code":"BEN","pot":2,"tags":["POR"],"group":"E"},{"code":"VIL","pot":2,"tags":["ESP"],"group":"F"},{"code":"RBS","pot":2,"tags":["AUT"],"group":"G"},{"code":"CHE","pot":2,"tags":["ENG"],"group":"H"}]}"#;
-
-pub(crate) const TWO_TEAMS: &str =
-    r#"{"kind":"pairing","teams":[{"code":"AAA","pot":1,"tags":["X"],"group":"A"},{"code":"BBB","pot":2,"tags":["Y"],"group":"B"}]}"#;
 
 const OPENING: &str = "draw pairing 16 teams\nnext runner-up: PSG ATM SCP INT BEN VIL RBS CHE\n";
 

@@ -4,23 +4,8 @@ use crate::{Closed, Lemma, LogFault, NoMemory, ProofLog};
 use count_core::{
     Atom, CountRule, Hint, Lit, Lits, Problem, Question, SharedProblem, Step, are_distinct,
 };
+use samples::CLASH;
 use std::alloc::Global;
-
-/// Two pots of two teams in two groups; the atom of team i in group k is 2 * i + k. Each team in
-/// one group, in each group one team of each pot, in each group at most one team. No assignment
-/// satisfies all ten.
-const CLASH: [(&[u32], u32, u32); 10] = [
-    (&[0, 1], 1, 1),
-    (&[2, 3], 1, 1),
-    (&[4, 5], 1, 1),
-    (&[6, 7], 1, 1),
-    (&[0, 2], 1, 1),
-    (&[4, 6], 1, 1),
-    (&[1, 3], 1, 1),
-    (&[5, 7], 1, 1),
-    (&[0, 2, 4, 6], 0, 1),
-    (&[1, 3, 5, 7], 0, 1),
-];
 
 const YES_0: Lit = Lit {
     atom: Atom(0),
