@@ -1,4 +1,4 @@
-use Rattle.draw_lines.proofs.Cuts.{cut_here}
+use Rattle.draw_lines.proofs.FirstPiece.{cut_here}
 use Rattle.draw_lines.proofs.inputs.first_piece.Goals as goal
 
 pub returns-then-byte-eq10-clause-pieces : goal.returns-then-byte-eq10-clause-pieces

@@ -1,4 +1,4 @@
-use Rattle.draw_lines.proofs.Cuts.{lines_lose_their_ends}
+use Rattle.draw_lines.proofs.FirstPiece.{lines_lose_their_ends}
 use Rattle.draw_lines.proofs.inputs.law_lines_lose_their_ends.Goals as goal
 
 pub returns : goal.returns

@@ -1,4 +1,4 @@
-use Rattle.draw_lines.proofs.Lines.{pieces_are_lines}
+use Rattle.draw_lines.proofs.PiecesAndSeparator.{pieces_are_lines}
 use Rattle.draw_lines.proofs.inputs.law_pieces_are_lines.Goals as goal
 
 pub returns : goal.returns

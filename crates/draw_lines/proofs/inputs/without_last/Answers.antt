@@ -1,4 +1,4 @@
-use Rattle.draw_lines.proofs.Cuts.{last_falls, last_stays}
+use Rattle.draw_lines.proofs.FirstPiece.{last_falls, last_stays}
 use Rattle.draw_lines.proofs.inputs.without_last.Goals as goal
 
 pub returns-in-Some : goal.returns-in-Some

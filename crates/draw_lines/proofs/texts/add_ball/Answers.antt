@@ -1,4 +1,4 @@
-use Rattle.draw_lines.proofs.Balls.{last_is_named, ball_text_is}
+use Rattle.draw_lines.proofs.LastMove.{last_is_named, ball_text_is}
 use Rattle.draw_lines.proofs.texts.add_ball.Goals as goal
 
 pub add_move-requires : goal.add_move-requires

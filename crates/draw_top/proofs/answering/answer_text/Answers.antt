@@ -1,6 +1,6 @@
 use Rattle.std.proofs.Common.{◌≡◌, [], refl, ◌∙◌, arith}
 use Rattle.draw_lines.specs.Inputs.{lines_of}
-use Rattle.draw_top.proofs.AnswerTexts.{goes_on, ends}
+use Rattle.draw_top.proofs.OneMoreLine.{goes_on, ends}
 use Rattle.draw_top.proofs.answering.answer_text.Goals as goal
 
 pub loop-line-preserved : goal.loop-line-preserved

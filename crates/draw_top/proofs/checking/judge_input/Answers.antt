@@ -3,8 +3,8 @@ use Rattle.draw_top.specs.declared.status.Status.{Status}
 use Rattle.draw_top.specs.Follow.{IsRefusalOf}
 use Rattle.draw_top.specs.Check.{IsObjectionTo}
 use Rattle.draw_top.specs.Modes.{Judge}
-use Rattle.draw_top.proofs.Judging.{legal_decides, objection_decides, refusal_decides}
-use Rattle.draw_top.proofs.Ended.{ended, complete}
+use Rattle.draw_top.proofs.TableVerdicts.{legal_decides, objection_decides, refusal_decides}
+use Rattle.draw_top.proofs.RowsOfStatuses.{ended, complete}
 use Rattle.draw_top.proofs.checking.judge_input.Goals as goal
 
 pub returns-in-Ok-Legal-clause-complete : goal.returns-in-Ok-Legal-clause-complete

@@ -1,4 +1,4 @@
-use Rattle.draw_top.proofs.Ended.{drawcheck_asked}
+use Rattle.draw_top.proofs.RowsOfStatuses.{drawcheck_asked}
 use Rattle.draw_top.proofs.checking.run_check.Goals as goal
 
 pub returns-clause-ends : goal.returns-clause-ends

@@ -1,4 +1,4 @@
-use Rattle.draw_top.proofs.Ended.{draw_asked}
+use Rattle.draw_top.proofs.RowsOfStatuses.{draw_asked}
 use Rattle.draw_top.proofs.following.follow.Goals as goal
 
 pub returns-clause-ends : goal.returns-clause-ends

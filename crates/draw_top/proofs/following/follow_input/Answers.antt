@@ -2,8 +2,8 @@ use Rattle.std.proofs.Common.{inl, inr}
 use Rattle.draw_top.specs.declared.status.Status.{Status}
 use Rattle.draw_top.specs.Follow.{IsAnswerOf, IsRefusalOf}
 use Rattle.draw_top.specs.Modes.{Follow}
-use Rattle.draw_top.proofs.Gains.{answer_decides, refusal_decides}
-use Rattle.draw_top.proofs.Ended.{ended, complete}
+use Rattle.draw_top.proofs.WhatWasRead.{answer_decides, refusal_decides}
+use Rattle.draw_top.proofs.RowsOfStatuses.{ended, complete}
 use Rattle.draw_top.proofs.following.follow_input.Goals as goal
 
 pub returns-in-Ok-Answer-clause-ends : goal.returns-in-Ok-Answer-clause-ends

@@ -1,4 +1,4 @@
-use Rattle.draw_top.proofs.Function.{answer_exists}
+use Rattle.draw_top.proofs.OneAnswer.{answer_exists}
 use Rattle.draw_top.proofs.laws.law_answer_exists.Goals as goal
 
 pub returns : goal.returns

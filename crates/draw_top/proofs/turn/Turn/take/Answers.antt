@@ -1,6 +1,6 @@
 use Rattle.draw_state.specs.declared.replies.Reply.{Reply}
 use Rattle.draw_top.specs.Turns.{Turn}
-use Rattle.draw_top.proofs.Taken.{taken, taken_named}
+use Rattle.draw_top.proofs.AcceptedBalls.{taken, taken_named}
 use Rattle.draw_top.proofs.turn.Turn.take.Goals as goal
 
 pub unreachable-requires : goal.unreachable-requires

@@ -5,7 +5,7 @@ use Rattle.draw_top.specs.Outside.{Outside, NothingFailed}
 use Rattle.draw_top.specs.Transfers.{IsRead, IsPut}
 use Rattle.draw_top.specs.Modes.{Mode, Follow, Judge, Draw, Drawcheck, AsksFor, limit_of}
 use Rattle.draw_top.specs.Endings.{WritesWhole, WritesPart, IsWrittenIn, EndsAs, Ends, IsDecided, CallsFor}
-use Rattle.draw_top.proofs.Gains.{read_all_of, gains, gains_some, told}
+use Rattle.draw_top.proofs.WhatWasRead.{read_all_of, gains, gains_some, told}
 
 -- a failed put ends each mode alike
 part_of : (mode : Mode) (old new : Outside)

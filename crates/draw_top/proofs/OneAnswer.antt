@@ -13,7 +13,7 @@ use Rattle.draw_lines.specs.Words.{command_of}
 use Rattle.draw_lines.specs.Texts.{opening_text}
 use Rattle.draw_lines.specs.Answers.{replies_text, IsAnswer}
 use Rattle.pairing_draw.proofs.Existence.{offer_exists}
-use Rattle.draw_top.proofs.Gains.{both, excluded}
+use Rattle.draw_top.proofs.WhatWasRead.{both, excluded}
 use Rattle.draw_top.specs.Laws.{OneAnswer, AnswerExists, AnswerOrRefusal}
 
 -- ---- at most one

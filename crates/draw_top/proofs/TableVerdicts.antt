@@ -11,8 +11,8 @@ use Rattle.draw_top.specs.Follow.{HasFile, IsRefusalOf}
 use Rattle.draw_top.specs.Check.{AreTableLine, AreLegal, TellsBroken, TellsNoTable, IsLegalInput, IsObjectionTo}
 use Rattle.draw_top.specs.Modes.{Judge, limit_of}
 use Rattle.draw_top.specs.Endings.{IsDecided}
-use Rattle.draw_top.proofs.Gains.{not_refused}
-use Rattle.draw_top.proofs.Function.{one_file}
+use Rattle.draw_top.proofs.WhatWasRead.{not_refused}
+use Rattle.draw_top.proofs.OneAnswer.{one_file}
 
 formed : (bytes : List ℕ) (file : DrawFile) → IsFileOf bytes file → IsWellFormed file
 formed bytes file h = (h.0, (h.1.0, h.1.2), h.2)
