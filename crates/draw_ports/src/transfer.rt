@@ -64,3 +64,25 @@ pub fn put_all<K: Sink>(sink: &mut K, bytes: &[u8]) -> Result<(), PortFault>
     }
     Ok(())
 }
+
+#[cfg(test)]
+mod tests {
+    use super::*;
+    use crate::{StdSink, StdSource, exit_code};
+
+    // It passes with its first allocation failing too, which `checks/memory` tries.
+    #[test]
+    fn bytes_and_ends_take_no_memory(rt: HostRuntime) {
+        let mut piece = [0u8; 8];
+        let mut source = StdSource::new(b"draw".as_slice());
+        assert!(rt; matches!(source.take(&mut piece), Ok(4)));
+        let mut room = [0u8; 40];
+        let mut sink = StdSink::new(room.as_mut_slice());
+        assert!(rt; put_all(&mut sink, &piece[..4]).is_ok());
+        let _code = exit_code(&mut sink, b"draw", 5);
+        assert_eq!(rt;
+            room.as_slice(),
+            b"drawdraw: no memory was left (status 5)\n".as_slice()
+        );
+    }
+}
