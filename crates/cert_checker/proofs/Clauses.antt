@@ -38,6 +38,7 @@ free_clause n ls =
     ∙ ap (λ k. are_within k ls && not (meets_set false (replicate n None) ls)) (length-replicate n unset)
     ∙ both (are_within n ls) (meets_set false (replicate n None) ls) (repeats ls) (meets_set_repeats false n ls)
 
+-- the same of any assignment in which nothing is set
 pub unset_clause : (p : PartialAssignment) (ls : List Lit) → p ≡ replicate (length p) None → are_free p ls ≡ are_distinct_within (length p) ls
 unset_clause p ls e = ap (λ q. are_free q ls) e ∙ free_clause (length p) ls
 

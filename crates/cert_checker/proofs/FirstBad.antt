@@ -9,6 +9,7 @@ use Rattle.cert_checker.specs.Checks.{bad_or, first_bad, IsFirstBad}
 module _ (problem : Problem) where
   -- ---- accepted
 
+  -- where the answer is Accepted, each step is accepted
   pub all_accepted : (earlier steps : List Step) (n : ℕ) → first_bad problem earlier steps n ≡ Accepted → AreAcceptedAfter problem earlier steps
   all_accepted earlier [] n e = tt
   all_accepted earlier (s ∷ steps) n e = go (failing_hint problem earlier s) refl e (all_accepted (earlier ++ s ∷ []) steps (n + 1))
@@ -17,6 +18,7 @@ module _ (problem : Problem) where
       go None is e rest = (is, rest e)
       go (Some h) is e rest = cc
 
+  -- and the other way
   pub none_bad : (earlier steps : List Step) (n : ℕ) → AreAcceptedAfter problem earlier steps → first_bad problem earlier steps n ≡ Accepted
   none_bad earlier [] n h = refl
   none_bad earlier (s ∷ steps) n h = rw h.0 (none_bad (earlier ++ s ∷ []) steps (n + 1) h.1)
@@ -74,12 +76,14 @@ module _ (problem : Problem) where
       let sum : n + 1 + k ≡ n + suc k = omega arith in
       rw (b.before.0, ← sum) rest
 
+  -- where the answer is Bad, that step is the first bad one
   pub first_is_bad : (steps : List Step) (n h : ℕ) → first_bad problem [] steps 0 ≡ Bad n h → IsFirstBad problem steps n h
   first_is_bad steps n h e =
       let (k, at, bad) = bad_is [] steps 0 n h e in
       let same : n ≡ k = omega arith in
       rw same (record { step = bad.step; is_step = bad.is_step; before = bad.before; fails = bad.fails })
 
+  -- and the other way
   pub bad_is_first : (steps : List Step) (n h : ℕ) → IsFirstBad problem steps n h → first_bad problem [] steps 0 ≡ Bad n h
   bad_is_first steps n h b =
       let sum : 0 + n ≡ n = omega arith in

@@ -29,6 +29,7 @@ sign_false false None x h e = cc
 sign_false true (Some c) x h e = h c refl ∙ not_true c e
 sign_false false (Some c) x h e = ap not (h c refl ∙ e)
 
+-- a sign applied is taken back by the same sign
 pub under_sign_back : (pos x b : Bool) → under_sign pos x ≡ b → x ≡ under_sign pos b
 under_sign_back true x b e = e
 under_sign_back false true b e = ap not e
@@ -40,9 +41,11 @@ under_sign_back false false b e = ap not e
 pub nothing_agrees : (v : List Bool) (n : ℕ) → Agrees v (replicate n None)
 nothing_agrees v n a b e = absurd (value_at_none n a b e)
 
+-- an atom set to its value
 pub set_agrees : (v : List Bool) (p : PartialAssignment) (a : ℕ) (x : Bool) → Agrees v p → value_of v a ≡ x → Agrees v (slice_set p a (Some x))
 set_agrees v p a x ag e k c f = elim (value_at_set p a x k c f) [ inl w ↦ ap (value_of v) w.0 ∙ e ∙ sym w.1 | inr w ↦ ag k c w ]
 
+-- a literal made what it is there, where it is unset
 pub assign_agrees : (v : List Bool) (b : Bool) (l : Lit) (p : PartialAssignment) → Agrees v p → (is_unset p l ≡ true → makes_true v l ≡ b) → Agrees v (assign b l p)
 assign_agrees v b l p ag h = go (is_unset p l) h
   where
@@ -50,6 +53,7 @@ assign_agrees v b l p ag h = go (is_unset p l) h
     go true h = set_agrees v p l.atom.0 (under_sign l.positive b) ag (under_sign_back l.positive (value_of v l.atom.0) b (h refl))
     go false h = ag
 
+-- each of some literals made what it is there, where it is unset
 pub assign_all_agrees : (v : List Bool) (b : Bool) (ls : List Lit) (p : PartialAssignment) → Agrees v p → Each (λ l. is_unset p l ≡ true → makes_true v l ≡ b) ls → Agrees v (assign_all b ls p)
 assign_all_agrees v b [] p ag h = ag
 assign_all_agrees v b (l ∷ ls) p ag h =
@@ -63,6 +67,7 @@ module _ (v : List Bool) (p : PartialAssignment) (ag : Agrees v p) where
   pub true_met : (l : Lit) → is_true p l ≡ true → makes_true v l ≡ true
   true_met l e = sign_true l.positive (value_at p l.atom.0) (value_of v l.atom.0) (ag l.atom.0) e
 
+  -- and what is false is false there
   pub false_unmet : (l : Lit) → is_false p l ≡ true → makes_true v l ≡ false
   false_unmet l e = sign_false l.positive (value_at p l.atom.0) (value_of v l.atom.0) (ag l.atom.0) e
 
@@ -111,6 +116,7 @@ module _ (v : List Bool) (p : PartialAssignment) (ag : Agrees v p) (ls : List Li
   pub full_unmet : (trues p ls == hi) ≡ true → Each (λ l. is_unset p l ≡ true → makes_true v l ≡ false) ls
   full_unmet e = each_map _ _ ls when_full (count_all (is_true p) (makes_true v) ls (true_met v p ag) (full e))
 
+  -- at its lower bound its unset literals are true
   pub scarce_met : (length ls - falses p ls == lo) ≡ true → Each (λ l. is_unset p l ≡ true → makes_true v l ≡ true) ls
   scarce_met f = each_map _ _ ls when_scarce (count_cover (is_false p) (makes_true v) ls (false_unmet v p ag) (scarce f))
 

@@ -18,6 +18,7 @@ unset_none true (Some false) e = cc
 unset_none false (Some true) e = cc
 unset_none false (Some false) e = cc
 
+-- and the other way
 pub none_unset : (pos : Bool) (k : Option Bool) → k ≡ None → (not (has_sign pos k) && not (has_sign (not pos) k)) ≡ true
 none_unset true None e = refl
 none_unset false None e = refl
@@ -37,6 +38,7 @@ true_not_false p l e = sign_once l.positive (value_at p l.atom.0) e
 
 -- ---- one atom set
 
+-- a value after an atom was set is that one, at that atom, or was there before
 pub value_at_set : (p : PartialAssignment) (a : ℕ) (x : Bool) (k : ℕ) (c : Bool) → value_at (slice_set p a (Some x)) k ≡ Some c → ((k ≡ a) × (c ≡ x)) ⊎ (value_at p k ≡ Some c)
 value_at_set [] a x k c e = inr e
 value_at_set (o ∷ p) zero x zero c e = inl (refl, cc)
@@ -44,11 +46,13 @@ value_at_set (o ∷ p) zero x (suc k) c e = inr e
 value_at_set (o ∷ p) (suc a) x zero c e = inr e
 value_at_set (o ∷ p) (suc a) x (suc k) c e = elim (value_at_set p a x k c e) [ inl w ↦ inl (ap suc w.0, w.1) | inr w ↦ inr w ]
 
+-- the atom that was set has the value
 pub value_at_same : (p : PartialAssignment) (a : ℕ) (x : Bool) → a < length p → value_at (slice_set p a (Some x)) a ≡ Some x
 value_at_same [] a x h = absurd (omega arith)
 value_at_same (o ∷ p) zero x h = refl
 value_at_same (o ∷ p) (suc a) x h = value_at_same p a x (omega arith)
 
+-- any other atom has the value that it had
 pub value_at_other : (p : PartialAssignment) (a : ℕ) (o : Option Bool) (k : ℕ) → k ≢ a → value_at (slice_set p a o) k ≡ value_at p k
 value_at_other [] a x k h = refl
 value_at_other (o ∷ p) zero x zero h = absurd (h refl)
@@ -63,6 +67,7 @@ none_before (o ∷ p) zero x (suc k) e = e
 none_before (o ∷ p) (suc a) x zero e = e
 none_before (o ∷ p) (suc a) x (suc k) e = none_before p a x k e
 
+-- where nothing is set, no atom has a value
 pub value_at_none : (n k : ℕ) (c : Bool) → value_at (replicate n None) k ≡ Some c → ⊥
 value_at_none zero k c e = cc
 value_at_none (suc n) zero c e = cc
@@ -70,6 +75,7 @@ value_at_none (suc n) (suc k) c e = value_at_none n k c e
 
 -- ---- literals made true or false
 
+-- as many atoms stay as there were
 pub length-assign : (b : Bool) (l : Lit) (p : PartialAssignment) → length (assign b l p) ≡ length p
 length-assign b l p = go (is_unset p l)
   where
@@ -77,6 +83,7 @@ length-assign b l p = go (is_unset p l)
     go true = length-set p l.atom.0 (Some (under_sign l.positive b))
     go false = refl
 
+-- also for some literals
 pub length-assign_all : (b : Bool) (ls : List Lit) (p : PartialAssignment) → length (assign_all b ls p) ≡ length p
 length-assign_all b [] p = refl
 length-assign_all b (l ∷ ls) p = length-assign_all b ls (assign b l p) ∙ length-assign b l p
@@ -85,6 +92,7 @@ length-assign_all b (l ∷ ls) p = length-assign_all b ls (assign b l p) ∙ len
 pub assign_unset : (b : Bool) (l : Lit) (p : PartialAssignment) → is_unset p l ≡ true → assign b l p ≡ slice_set p l.atom.0 (Some (under_sign l.positive b))
 assign_unset b l p e = rw e
 
+-- a literal that is not unset changes nothing
 pub assign_set : (b : Bool) (l : Lit) (p : PartialAssignment) → is_unset p l ≡ false → assign b l p ≡ p
 assign_set b l p e = rw e
 
@@ -96,6 +104,7 @@ assign_other b l p a ne = go (is_unset p l)
     go true = value_at_other p l.atom.0 (Some (under_sign l.positive b)) a ne
     go false = refl
 
+-- also for some literals
 pub assign_all_other : (b : Bool) (ls : List Lit) (p : PartialAssignment) (a : ℕ) → mentions a ls ≡ false → value_at (assign_all b ls p) a ≡ value_at p a
 assign_all_other b [] p a e = refl
 assign_all_other b (l ∷ ls) p a e = go (l.atom.0 == a) refl e (assign_all_other b ls (assign b l p) a)
@@ -117,10 +126,12 @@ assign_keeps b l p a c e = go (is_unset p l) refl (l.atom.0 == a) refl
     go true un false is = value_at_other p l.atom.0 (Some (under_sign l.positive b)) a (λ q. (let yes : (l.atom.0 == a) ≡ true = (Decides-eqb l.atom.0 a).1 (sym q) in cc)) ∙ e
     go false un t is = e
 
+-- also for some literals
 pub assign_all_keeps : (b : Bool) (ls : List Lit) (p : PartialAssignment) (a : ℕ) (c : Bool) → value_at p a ≡ Some c → value_at (assign_all b ls p) a ≡ Some c
 assign_all_keeps b [] p a c e = e
 assign_all_keeps b (l ∷ ls) p a c e = assign_all_keeps b ls (assign b l p) a c (assign_keeps b l p a c e)
 
+-- a literal that is unset after another was made true or false was unset before
 pub unset_before : (b : Bool) (l m : Lit) (p : PartialAssignment) → is_unset (assign b l p) m ≡ true → is_unset p m ≡ true
 unset_before b l m p e = go (is_unset p l) e
   where

@@ -71,6 +71,7 @@ all_unset n (l ∷ ls) = rw (here (value_at (replicate n None) l.atom.0) refl, a
 pub meets_set_repeats : (b : Bool) (atoms : ℕ) (ls : List Lit) → are_within atoms ls ≡ true → meets_set b (replicate atoms None) ls ≡ repeats ls
 meets_set_repeats b atoms ls h = meets_set_is b (replicate atoms None) ls (rw length-replicate h) ∙ ap (λ t. t || repeats ls) (all_unset atoms ls)
 
+-- the same of any assignment in which nothing is set
 pub unset_repeats : (b : Bool) (p : PartialAssignment) (n : ℕ) (ls : List Lit) → p ≡ replicate n None → are_within n ls ≡ true → meets_set b p ls ≡ repeats ls
 unset_repeats b p n ls e h = rw e (meets_set_repeats b n ls h)
 

@@ -102,6 +102,7 @@ module _ (find : Hint → Option CountRule) where
 
 -- ---- the failing hint of a step
 
+-- what is reported is the failing hint, and the other way
 pub tells_failing_hint : TellsFailingHint
 tells_failing_hint problem earlier s n = (there, back)
   where

@@ -87,6 +87,7 @@ first_tells atoms n (r ∷ rs) f (suc place) rule at before has =
     let rest = first_tells atoms (n + 1) rs f place rule at (λ k other lt is. before (suc k) other (omega (arith, lt)) is) (subst (λ k. IsFaultOf atoms k rule f) on has) in
     rw none rest
 
+-- what is reported is the first fault, and the other way
 pub tells_first_fault : TellsFirstFault
 tells_first_fault = record {
   fault = λ atoms rules fault. (λ e. first atoms rules fault (first_told atoms 0 rules fault e), λ h. first_tells atoms 0 rules fault h.number h.rule h.is_rule h.before (subst (λ k. IsFaultOf atoms k h.rule fault) (sym (from_none h.number)) h.has));

@@ -52,6 +52,7 @@ module _ (find : Hint → Option CountRule) where
       go None found rest e = cc
       go (Some r) found rest e = by_case r found rest (conflicts p r.lits r.lo r.hi) (forces p r.lits r.lo r.hi) refl refl e
 
+-- acceptance in the words of LRAT
 pub accepted_by_conflict : AcceptedByConflict
 accepted_by_conflict problem earlier s = (there, back)
   where

@@ -1,5 +1,5 @@
 -- ---- lists
--- tests, facts of each element, counts, and a list written back
+-- tests, facts of each element, counts, places of two lists put together, a list written back
 pub mod Lists
 -- ---- problems
 -- a mark at each atom of some literals: whether two are over one atom

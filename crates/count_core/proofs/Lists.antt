@@ -1,5 +1,5 @@
--- Tests, facts of each element, counts, and a list written back.
-use Rattle.std.proofs.Common.{◌≡◌, ℕ, zero, suc, ◌+◌, ◌≤◌, Bool, true, false, cond, List, [], ◌∷◌, ◌++◌, length, take, drop, ◌⊎◌, inl, inr, refl, arith, Some, slice_get, subst}
+-- Tests, facts of each element, counts, places of two lists put together, and a list written back.
+use Rattle.std.proofs.Common.{◌≡◌, ℕ, zero, suc, ◌+◌, ◌≤◌, Bool, true, false, cond, List, [], ◌∷◌, ◌++◌, length, take, drop, ◌⊎◌, inl, inr, refl, ap, arith, Some, slice_get, subst}
 use Rattle.std.specs.Prelude.{count_by, ◌||◌, ◌&&◌}
 use Rattle.std.specs.List.{AllByRecursion as Each, list_any}
 use Rattle.std.proofs.lemmas.Grind.{common_steps}
@@ -129,6 +129,24 @@ none_pass p (x ∷ xs) e = go (p x) refl e (none_pass p xs)
     go : (b : Bool) → p x ≡ b → (b || list_any p xs) ≡ false → (list_any p xs ≡ false → Each (λ x. p x ≡ false) xs) → (p x ≡ false) × Each (λ x. p x ≡ false) xs
     go true is e rest = cc
     go false is e rest = (is, rest e)
+
+-- ---- a place of two lists put together
+
+-- it is in the first
+pub get_front : {X : Type 0} (xs ys : List X) (n : ℕ) (x : X) → slice_get xs n ≡ Some x → slice_get (xs ++ ys) n ≡ Some x
+get_front [] ys n x e = cc
+get_front (y ∷ xs) ys zero x e = e
+get_front (y ∷ xs) ys (suc n) x e = get_front xs ys n x e
+
+-- it is the first of the second
+pub get_middle : {X : Type 0} (xs : List X) (y : X) (ys : List X) → slice_get (xs ++ y ∷ ys) (length xs) ≡ Some y
+get_middle [] y ys = refl
+get_middle (x ∷ xs) y ys = get_middle xs y ys
+
+-- it is in the second
+pub get_behind : {X : Type 0} (xs ys : List X) (n : ℕ) → slice_get (xs ++ ys) (n + length xs) ≡ slice_get ys n
+get_behind [] ys n = let e : n + 0 ≡ n = omega arith in ap (slice_get ys) e
+get_behind (x ∷ xs) ys n = let e : n + suc (length xs) ≡ suc (n + length xs) = omega arith in rw e (get_behind xs ys n)
 
 -- ---- a list written back
 

@@ -3,6 +3,7 @@ use Rattle.std.proofs.Common.{◌≡◌, ℕ, zero, suc, ◌+◌, ◌-◌, Bool,
 use Rattle.std.specs.Prelude.{option_map, map}
 use Rattle.std.specs.List.{AllByRecursion as Each}
 use Rattle.std.proofs.lemmas.List.{take-append-drop}
+use Rattle.count_core.proofs.Lists.{get_front}
 use Rattle.count_core.specs.declared.count_rule.CountRule.{CountRule}
 use Rattle.count_core.specs.declared.hint.Hint.{Hint}
 use Rattle.count_core.specs.declared.hint.Hint.TheVariants.{Rule, Step as Earlier}
@@ -63,11 +64,6 @@ kept_name_the_same find other (x ∷ hs) keep = (keep x, kept_name_the_same find
 
 -- ---- hints after longer lists
 
-get_front : {X : Type 0} (xs ys : List X) (n : ℕ) (x : X) → slice_get xs n ≡ Some x → slice_get (xs ++ ys) n ≡ Some x
-get_front [] ys n x e = cc
-get_front (y ∷ xs) ys zero x e = e
-get_front (y ∷ xs) ys (suc n) x e = get_front xs ys n x e
-
 -- a step that a hint names is there by its number
 pub step_named : (problem : Problem) (earlier others : List Step) (n m : ℕ) → ((s : Step) → slice_get earlier n ≡ Some s → (t : Step) × (slice_get others m ≡ Some t) × (t.clause ≡ s.clause)) → (r : CountRule) → rule_at problem earlier (Earlier n) ≡ Some r → rule_at problem others (Earlier m) ≡ Some r
 step_named problem earlier others n m same r e = go (slice_get earlier n) refl e
@@ -124,6 +120,7 @@ at_after problem earlier (t ∷ steps) zero s h e =
 at_after problem earlier (t ∷ steps) (suc n) s h e =
     subst (λ e. IsAccepted problem e s) (sym (append_next earlier t (take n steps))) (at_after problem (earlier ++ t ∷ []) steps n s h.1 e)
 
+-- so from the first step on
 pub accepted_at : (problem : Problem) (steps : List Step) (n : ℕ) (s : Step) → AreAccepted problem steps → slice_get steps n ≡ Some s → IsAccepted problem (take n steps) s
 accepted_at problem steps n s h e = at_after problem [] steps n s h e
 
@@ -142,6 +139,7 @@ last_at (t ∷ steps) (suc n) s e = past t (take (suc n) steps) s (last_at steps
 pub last_of_take : (steps : List Step) (n : ℕ) (s : Step) → slice_get steps n ≡ Some s → HasLast (take (n + 1) steps) s
 last_of_take steps n s e = rw add-one (last_at steps n s e)
 
+-- a step put at the end is the last
 pub last_pushed : (steps : List Step) (s : Step) → HasLast (steps ++ s ∷ []) s
 last_pushed [] s = refl
 last_pushed (t ∷ steps) s = past t (steps ++ s ∷ []) s (last_pushed steps s)

@@ -10,14 +10,17 @@ use Rattle.count_core.proofs.Assigning.{true_not_false}
 
 -- ---- the words, opened
 
+-- when a rule conflicts
 pub conflicts_is : (p : PartialAssignment) (ls : List Lit) (lo hi : ℕ) → conflicts p ls lo hi ≡ (nat_lt hi (trues p ls) || nat_lt (length ls - falses p ls) lo)
 unfolding conflicts
 conflicts_is p ls lo hi = refl
 
+-- when it forces
 pub forces_is : (p : PartialAssignment) (ls : List Lit) (lo hi : ℕ) → forces p ls lo hi ≡ (nat_lt 0 (unsets p ls) && ((trues p ls == hi) || (length ls - falses p ls == lo)))
 unfolding forces
 forces_is p ls lo hi = refl
 
+-- what is set then
 pub forced_is : (p : PartialAssignment) (ls : List Lit) (lo hi : ℕ) → forced_assignment p ls lo hi ≡ cond (trues p ls == hi) (assign_all false ls p) (cond (length ls - falses p ls == lo) (assign_all true ls p) p)
 unfolding forced_assignment
 forced_is p ls lo hi = refl

@@ -12,6 +12,7 @@ use Rattle.count_core.proofs.Lists.{both_true}
 
 -- ---- rules without a fault
 
+-- a rule without a fault is well formed
 pub no_fault : (atoms n : ℕ) (r : CountRule) → fault_of atoms n r ≡ None → IsWellFormedRule atoms r
 no_fault atoms n r e = go (are_within atoms r.lits) refl (repeats r.lits) refl (nat_lt r.hi r.lo) refl e
   where
@@ -21,6 +22,7 @@ no_fault atoms n r e = go (are_within atoms r.lits) refl (repeats r.lits) refl (
     go true isa true isb c isc e = cc
     go false isa b isb c isc e = cc
 
+-- and the other way
 pub well_formed_no_fault : (atoms n : ℕ) (r : CountRule) → IsWellFormedRule atoms r → fault_of atoms n r ≡ None
 well_formed_no_fault atoms n r h =
     let in_order : nat_lt r.hi r.lo ≡ false = (let le = h.bounds in grind (arith, nat_tests)) in
@@ -35,6 +37,7 @@ rules_well_formed atoms n (r ∷ rs) e = go (fault_of atoms n r) refl e (rules_w
     go None is e rest = (no_fault atoms n r is, rest e)
     go (Some f) is e rest = cc
 
+-- and the other way
 pub well_formed_rules : (atoms n : ℕ) (rs : List CountRule) → Each (IsWellFormedRule atoms) rs → first_fault atoms n rs ≡ None
 well_formed_rules atoms n [] h = refl
 well_formed_rules atoms n (r ∷ rs) h = rw (well_formed_no_fault atoms n r h.0, well_formed_rules atoms (n + 1) rs h.1)
@@ -74,6 +77,7 @@ not_mentioned a (l ∷ ls) h = go (l.atom.0 == a) refl (not_mentioned a ls (λ j
     go true is rest = absurd (h zero l refl ((Decides-eqb l.atom.0 a).0 is))
     go false is rest = rest
 
+-- where the literals at any two places are over different atoms, none stands twice
 pub distinct_from_places : (ls : List Lit) → ((i j : ℕ) (l m : Lit) → i < j → slice_get ls i ≡ Some l → slice_get ls j ≡ Some m → m.atom.0 ≢ l.atom.0) → repeats ls ≡ false
 distinct_from_places [] h = refl
 distinct_from_places (l ∷ ls) h =
@@ -84,6 +88,7 @@ pub within_from_each : (atoms : ℕ) (ls : List Lit) → Each (λ (l : Lit). l.a
 within_from_each atoms [] h = refl
 within_from_each atoms (l ∷ ls) h = rw ((Decides-ltb l.atom.0 atoms).1 h.0, within_from_each atoms ls h.1)
 
+-- and the other way
 pub each_within : (atoms : ℕ) (ls : List Lit) → are_within atoms ls ≡ true → Each (λ (l : Lit). l.atom.0 < atoms) ls
 each_within atoms [] e = tt
 each_within atoms (l ∷ ls) e =

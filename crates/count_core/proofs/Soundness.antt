@@ -58,6 +58,7 @@ module _ (v : List Bool) (problem : Problem) (earlier : List Step) (met : Satisf
           absurd (some_fails s.hints (assumed_negation problem.atoms s.clause) 0 ag e)
       go false is false e = cc
 
+-- each clause of accepted steps is true where the rules and the clauses before are
 pub all_hold : (v : List Bool) (problem : Problem) (earlier steps : List Step) → Satisfies v problem → Each (λ (s : Step). satisfies_clause v s.clause ≡ true) earlier → AreAcceptedAfter problem earlier steps → Each (λ (s : Step). satisfies_clause v s.clause ≡ true) steps
 all_hold v problem earlier [] met held h = tt
 all_hold v problem earlier (s ∷ steps) met held h =
@@ -68,6 +69,7 @@ each_under : (problem : Problem) (steps : List Step) → ((v : List Bool) → Sa
 each_under problem [] h = tt
 each_under problem (s ∷ steps) h = (λ v met. (h v met).0, each_under problem steps (λ v met. (h v met).1))
 
+-- every clause of an accepted list follows
 pub clauses_follow : AcceptedClausesFollow
 clauses_follow problem steps accepted = each_under problem steps (λ v met. all_hold v problem [] steps met tt accepted)
 
@@ -100,5 +102,6 @@ negations_false v question (l ∷ ls) met h = rw (negation_false v question met 
 pub no_assignment : (problem : Problem) (question clause : List Lit) → Follows problem clause → NegatesOnly question clause → (v : List Bool) → Satisfies v problem → SatisfiesQuestion v question → ⊥
 no_assignment problem question clause follows negates v met asked = let e = follows v met in let f = negations_false v question clause asked negates in cc
 
+-- a question that has a refutation has no assignment
 pub refuted_fail : RefutedQuestionsFail
 refuted_fail problem question steps r (v, met, asked) = no_assignment problem question r.last.clause (clause_follows problem steps r.accepted (length steps - 1) r.last r.is_last) r.negates v met asked

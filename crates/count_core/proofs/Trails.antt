@@ -44,6 +44,7 @@ unset_number_set (Some b ∷ p) zero x lt e = cc
 unset_number_set (None ∷ p) (suc a) x lt e = ap suc (unset_number_set p a x (omega arith) e)
 unset_number_set (Some b ∷ p) (suc a) x lt e = unset_number_set p a x (omega arith) e
 
+-- where nothing is set, all atoms are unset
 pub unset_number_replicate : (n : ℕ) → unset_number (replicate n None) ≡ n
 unset_number_replicate zero = refl
 unset_number_replicate (suc n) = ap suc (unset_number_replicate n)
@@ -89,9 +90,11 @@ module _ (p : PartialAssignment) (l : Lit) (free : is_free p l ≡ true) where
   parts : (nat_lt l.atom.0 (length p) ≡ true) × (is_unset p l ≡ true)
   parts = both_true (nat_lt l.atom.0 (length p)) (is_unset p l) free
 
+  -- its atom is in range
   pub free_within : l.atom.0 < length p
   free_within = (Decides-ltb l.atom.0 (length p)).0 parts.0
 
+  -- and has no value
   pub free_unset : value_at p l.atom.0 ≡ None
   free_unset = unset_none l.positive (value_at p l.atom.0) parts.1
 

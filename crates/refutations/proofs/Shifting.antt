@@ -10,13 +10,11 @@ use Rattle.count_core.specs.declared.hint.Hint.TheVariants.{Rule, Step as Earlie
 use Rattle.count_core.specs.declared.step.Step.{Step}
 use Rattle.count_core.specs.Problems.{Problem}
 use Rattle.count_core.specs.Steps.{rule_at, IsAccepted, AreAcceptedAfter, AreAccepted}
+use Rattle.count_core.proofs.Lists.{get_behind}
 use Rattle.count_core.proofs.Renumbering.{mapped_name_the_same, accepted_moved, step_named, append_after}
 use Rattle.refutations.specs.Shifts.{shifted_hint, shifted_step}
 
-behind : {X : Type 0} (xs ys : List X) (n : ℕ) → slice_get (xs ++ ys) (n + length xs) ≡ slice_get ys n
-behind [] ys n = let e : n + 0 ≡ n = omega arith in ap (slice_get ys) e
-behind (x ∷ xs) ys n = let e : n + suc (length xs) ≡ suc (n + length xs) = omega arith in rw e (behind xs ys n)
-
+-- a fact of any element is one of each
 each_of_all : {X : Type 0} (P : X → Type 0) (xs : List X) → ((x : X) → P x) → Each P xs
 each_of_all P [] h = tt
 each_of_all P (x ∷ xs) h = (h x, each_of_all P xs h)
@@ -26,7 +24,7 @@ module _ (problem : Problem) (one : List Step) where
   names_moved earlier (Rule n) r e = e
   names_moved earlier (Earlier n) r e =
       step_named problem earlier (one ++ map (shifted_step (length one)) earlier) n (n + length one)
-      (λ s is. (shifted_step (length one) s, behind one (map (shifted_step (length one)) earlier) n ∙ slice_get-map (shifted_step (length one)) earlier n ∙ ap (option_map (shifted_step (length one))) is, refl)) r e
+      (λ s is. (shifted_step (length one) s, get_behind one (map (shifted_step (length one)) earlier) n ∙ slice_get-map (shifted_step (length one)) earlier n ∙ ap (option_map (shifted_step (length one))) is, refl)) r e
 
   shift_accepted : (earlier : List Step) (s : Step) → IsAccepted problem earlier s → IsAccepted problem (one ++ map (shifted_step (length one)) earlier) (shifted_step (length one) s)
   shift_accepted earlier s e =

@@ -1,6 +1,5 @@
 -- The steps of a set that is closed under hints: renumbered, they are accepted.
 use Rattle.std.proofs.Common.{◌≡◌, ℕ, zero, suc, ◌+◌, ◌-◌, ◌≤◌, ◌<◌, Bool, true, false, cond, List, [], ◌∷◌, ◌++◌, length, take, drop, refl, sym, ap, ◌∙◌, arith, Some, slice_get, subst}
-use Rattle.std.proofs.Common.{Result, Ok, Err, IfOk}
 use Rattle.std.specs.Prelude.{map, count_by, ◌==◌}
 use Rattle.std.specs.List.{list_any, AllByRecursion as Each}
 use Rattle.std.proofs.lemmas.List.{take-append-le, length-append, append-nil, append_assoc}
@@ -12,7 +11,7 @@ use Rattle.count_core.specs.declared.hint.Hint.TheVariants.{Rule, Step as Earlie
 use Rattle.count_core.specs.declared.step.Step.{Step}
 use Rattle.count_core.specs.Problems.{Problem}
 use Rattle.count_core.specs.Steps.{rule_at, IsAccepted, AreAcceptedAfter, AreAccepted}
-use Rattle.count_core.proofs.Lists.{count_cons}
+use Rattle.count_core.proofs.Lists.{count_cons, get_middle}
 use Rattle.count_core.proofs.Renumbering.{mapped_name_the_same, accepted_moved, step_named}
 use Rattle.refutations.specs.Derivations.{clause_of, clause_at, last_clause, IsLemma}
 use Rattle.refutations.specs.Earlier.{IsBelow, ArePlaces, by_place, by_places}
@@ -91,10 +90,6 @@ module _ (problem : Problem) (ones twos : List Bool) (one : List Step) (same : l
 
 -- ---- the whole sublist
 
-middle : {X : Type 0} (xs : List X) (y : X) (ys : List X) → slice_get (xs ++ y ∷ ys) (length xs) ≡ Some y
-middle [] y ys = refl
-middle (x ∷ xs) y ys = middle xs y ys
-
 middle_in : (xs : List Bool) (ys : List Bool) → is_in (xs ++ true ∷ ys) (length xs) ≡ true
 middle_in [] ys = refl
 middle_in (x ∷ xs) ys = middle_in xs ys
@@ -103,11 +98,12 @@ middle_in (x ∷ xs) ys = middle_in xs ys
 abbrev pub IsClosed : List Bool → List Step → Type 0
 IsClosed all steps = (n m : ℕ) → is_in all n ≡ true → Names steps n m → is_in all m ≡ true
 
+-- the steps of a closed set, renumbered, are accepted one after the other
 pub kept_after : (problem : Problem) (all : List Bool) (steps : List Step) → IsClosed all steps → (ones twos : List Bool) (one two : List Step) → ones ++ twos ≡ all → one ++ two ≡ steps → length ones ≡ length one → AreAcceptedAfter problem one two → AreAcceptedAfter problem (sublist all ones one) (sublist all twos two)
 kept_after problem all steps closed ones [] one two is are same h = tt
 kept_after problem all steps closed ones (b ∷ twos) one [] is are same h = tt
 kept_after problem all steps closed ones (true ∷ twos) one (s ∷ two) is are same h =
-    let at : slice_get steps (length ones) ≡ Some s = ap (λ xs. slice_get xs (length ones)) (sym are) ∙ ap (slice_get (one ++ s ∷ two)) same ∙ middle one s two in
+    let at : slice_get steps (length ones) ≡ Some s = ap (λ xs. slice_get xs (length ones)) (sym are) ∙ ap (slice_get (one ++ s ∷ two)) same ∙ get_middle one s two in
     let yes : is_in all (length ones) ≡ true = ap (λ xs. is_in xs (length ones)) (sym is) ∙ middle_in ones twos in
     let inside : Each (InSet all) s.hints = each_in_set all s.hints (λ m any. closed (length ones) m yes (s, at, any)) in
     let here : IsAccepted problem (sublist all ones one) (placed_step all s) = subst (λ a. Each (InSet a) s.hints → IsAccepted problem (sublist a ones one) (placed_step a s)) is (λ e. step_kept problem ones (true ∷ twos) one same s e h.0) inside in
@@ -149,6 +145,7 @@ by_place_is set places [] h e = refl
 by_place_is set places (Rule n ∷ hs) h e = ap (λ gs. Rule n ∷ gs) (by_place_is set places hs h e.1)
 by_place_is set places (Earlier n ∷ hs) h e = rw (h.each n e.0) (ap (λ gs. Earlier (number_below set n) ∷ gs) (by_place_is set places hs h e.1))
 
+-- places by a table are the places in the set
 pub by_places_is : (set : List Bool) (places : List ℕ) (s : Step) → ArePlaces set places → Each (IsBelow (length set)) s.hints → by_places places s ≡ placed_step set s
 by_places_is set places s h e = ap (λ hs. record { clause = s.clause; hints = hs }) (by_place_is set places s.hints h e)
 
@@ -168,14 +165,10 @@ sublist_no all (true ∷ marks) (t ∷ steps) zero s e f = cc
 sublist_no all (false ∷ marks) (t ∷ steps) zero s e f = refl
 sublist_no all (b ∷ marks) (t ∷ steps) (suc i) s e f = let one : suc i + 1 ≡ suc (i + 1) = omega arith in rw one (sublist_no all marks steps i s e f)
 
+-- a step of the set is kept
 pub kept_yes : (all marks : List Bool) (steps kept whole : List Step) (i : ℕ) (s t : Step) → slice_get marks i ≡ Some true → slice_get steps i ≡ Some s → t ≡ placed_step all s → kept ++ sublist all (drop i marks) (drop i steps) ≡ whole → (kept ++ t ∷ []) ++ sublist all (drop (i + 1) marks) (drop (i + 1) steps) ≡ whole
 kept_yes all marks steps kept whole i s t e f is h = append_assoc kept (t ∷ []) (sublist all (drop (i + 1) marks) (drop (i + 1) steps)) ∙ ap (λ x. kept ++ x ∷ sublist all (drop (i + 1) marks) (drop (i + 1) steps)) is ∙ ap (λ xs. kept ++ xs) (sym (sublist_yes all marks steps i s e f)) ∙ h
 
+-- another is not
 pub kept_no : (all marks : List Bool) (steps kept whole : List Step) (i : ℕ) (s : Step) → slice_get marks i ≡ Some false → slice_get steps i ≡ Some s → kept ++ sublist all (drop i marks) (drop i steps) ≡ whole → kept ++ sublist all (drop (i + 1) marks) (drop (i + 1) steps) ≡ whole
 kept_no all marks steps kept whole i s e f h = ap (λ xs. kept ++ xs) (sym (sublist_no all marks steps i s e f)) ∙ h
-
--- ---- facts under an Ok
-
-pub ok_map : {T E : Type 0} (P Q : T → Type 0) (r : Result T E) → ((x : T) → P x → Q x) → IfOk r P → IfOk r Q
-ok_map P Q (Ok x) f h = f x h
-ok_map P Q (Err e) f h = h
