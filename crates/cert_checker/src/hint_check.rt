@@ -19,13 +19,13 @@ pub(crate) fn failing_hint(
     ensures within { IfSome result (λ i. i ≤ length step.now.hints) }
     ensures clean { assignment.new ≡ replicate problem.now.atoms None }
 {
-    let failing = failing_under_negation(assignment, problem, earlier, step);
+    let failing = failing_hint_under_negation(assignment, problem, earlier, step);
     assignment.clear();
     failing
 }
 
 /// The same: assumes the negation of the step's clause, and checks the hints.
-fn failing_under_negation(
+fn failing_hint_under_negation(
     assignment: &mut Assignment,
     problem: &Problem,
     earlier: &[Step],
