@@ -3,7 +3,7 @@ ghost use Rattle.count_core.specs.Steps.{rule_at, failing_from, failing_hint};
 
 use crate::assignment::Assignment;
 use crate::effect::{Effect, effect_of};
-use crate::named::rule_at;
+use crate::named_rule::rule_at;
 use count_core::{Hint, Problem, Step};
 
 /// The failing hint of the step after the earlier ones, or none where it is accepted. Begins and
