@@ -5,5 +5,5 @@ pub mod Logs
 pub mod Shifts
 pub mod Cones
 -- what hints name, as the code has it
-pub mod Named
-pub mod Earlier
+pub mod NamedRules
+pub mod EarlierSteps

@@ -2,7 +2,7 @@ ghost use Rattle.std.specs.Prelude.{◌≡◌, ◌≤◌, length, replicate, opt
 ghost use Rattle.count_core.specs.Problems.{repeats, are_within};
 ghost use Rattle.count_core.specs.PartialAssignments.{is_unset, assign_all};
 ghost use Rattle.count_core.specs.Steps as spec;
-ghost use Rattle.refutations.specs.Named.{rule_of};
+ghost use Rattle.refutations.specs.NamedRules.{rule_of};
 
 use crate::assignment::Assignment;
 use crate::effect::{Effect, effect_of};
@@ -10,7 +10,7 @@ use count_core::{Hint, Lit, Problem, Step};
 
 /// A rule or a clause, as its literals and bounds.
 #[derive(Clone, Copy)]
-struct Named<'a> {
+struct NamedRule<'a> {
     lits: &'a [Lit],
     lo: usize,
     hi: usize,
@@ -71,13 +71,13 @@ fn is_set(values: &[Option<bool>], lit: Lit) -> bool
 }
 
 /// The rule or the clause that a hint names, if there is one.
-fn find_rule<'a>(problem: &'a Problem, earlier: &'a [Step], hint: Hint) -> Option<Named<'a>>
+fn find_rule<'a>(problem: &'a Problem, earlier: &'a [Step], hint: Hint) -> Option<NamedRule<'a>>
     ensures { option_map rule_of result ≡ spec.rule_at problem.now earlier.now hint }
 {
     match hint {
         Hint::Rule(number) => {
             let rule = problem.rules().get(number as usize)?;
-            Some(Named {
+            Some(NamedRule {
                 lits: rule.lits.as_slice(),
                 lo: rule.lo as usize,
                 hi: rule.hi as usize,
@@ -86,7 +86,7 @@ fn find_rule<'a>(problem: &'a Problem, earlier: &'a [Step], hint: Hint) -> Optio
         Hint::Step(number) => {
             let step = earlier.get(number as usize)?;
             let lits = step.clause.as_slice();
-            Some(Named {
+            Some(NamedRule {
                 lits,
                 lo: 1,
                 hi: lits.len(),

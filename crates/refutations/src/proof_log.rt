@@ -205,7 +205,7 @@ fn make_assignment(
     if assignment.values().len() == atoms {
         return Ok(());
     }
-    *assignment = Assignment::unset(alloc, atoms)?;
+    *assignment = Assignment::of_atoms(alloc, atoms)?;
     Ok(())
 }
 

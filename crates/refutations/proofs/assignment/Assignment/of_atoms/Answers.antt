@@ -1,6 +1,6 @@
 use Rattle.std.proofs.Common.{◌≡◌, replicate, None, rules}
 use Rattle.count_core.proofs.Trails.{trail_clear}
-use Rattle.refutations.proofs.assignment.Assignment.unset.Goals as goal
+use Rattle.refutations.proofs.assignment.Assignment.of_atoms.Goals as goal
 
 pub invariant_of-result : goal.invariant_of-result
 invariant_of-result c =
