@@ -9,8 +9,4 @@ returns-clause-ends g c =
 pub returns-clause-complete : goal.returns-clause-complete
 returns-clause-complete g c =
     rw (c.in-Ok.is, ← c.deref.ensures.value)
-    (λ mode status asks calls quiet. (
-      c.run_check-status.result,
-      c.exit_code-2.ensures.code ∙ c.number-2.ensures,
-      c.run_check-status.ensures.complete mode status asks calls quiet,
-    ))
+    (c.run_check-status.result, c.exit_code-2.ensures.code ∙ c.number-2.ensures, c.run_check-status.ensures.complete)
