@@ -1,7 +1,7 @@
 -- What is read of a text has that text, and what has a text is read of it.
 use Rattle.std.proofs.Common.{◌≡◌, ℕ, zero, suc, ◌+◌, ◌<◌, Bool, true, false, List, [], ◌∷◌, ◌++◌, length, take, drop, Option, Some, None, slice_get, arith, refl, sym, ap, ◌∙◌}
 use Rattle.std.specs.Prelude.{◌==◌, if◌then◌else◌, bytes_eq, option_map, option_and_then}
-use Rattle.std.specs.List.{All, list_all}
+use Rattle.std.specs.List.{All, list_all, AllByRecursion as Each}
 use Rattle.std.proofs.lemmas.Bool.{and_parts, eqb-true}
 use Rattle.std.proofs.lemmas.List.Elements.{All-head, All-tail}
 use Rattle.team_files.specs.declared.team.Team.{Team}
@@ -74,8 +74,7 @@ module _ (teams : List Team) (coded : All HasCode teams) (distinct : HaveDistinc
 
 -- each is a team of the list
 abbrev pub AllWithin : List Team → List TeamId → Type 0
-AllWithin teams [] = Unit {0}
-AllWithin teams (t ∷ ts) = (t.0 < length teams) × AllWithin teams ts
+AllWithin teams ts = Each (λ t. t.0 < length teams) ts
 
 -- so many teams' codes, each behind one space, are the bytes
 pub record AreSpaced (teams : List Team) (n : ℕ) (bytes : List ℕ) (ts : List TeamId) : Type 0 where
