@@ -1,6 +1,6 @@
 -- What is read of a text has that text, and what has a text is read of it.
 use Rattle.std.proofs.Common.{◌≡◌, ℕ, zero, suc, ◌+◌, ◌<◌, Bool, true, false, List, [], ◌∷◌, ◌++◌, length, take, drop, Option, Some, None, slice_get, arith, refl, sym, ap, ◌∙◌}
-use Rattle.std.specs.Prelude.{◌==◌, if◌then◌else◌, bytes_eq, option_map, option_and_then}
+use Rattle.std.specs.Prelude.{◌==◌, if◌then◌else◌, option_map, option_and_then}
 use Rattle.std.specs.List.{All, list_all, AllByRecursion as Each}
 use Rattle.std.proofs.lemmas.Bool.{and_parts, eqb-true}
 use Rattle.std.proofs.lemmas.List.Elements.{All-head, All-tail}
