@@ -1,0 +1,5 @@
+pub mod Basics
+pub mod Trails
+pub mod Counting
+pub mod Statuses
+pub mod Stores
