@@ -93,3 +93,7 @@ read_other (z ∷ xs) (suc a) x (suc k) ne = read_other xs a x k (λ e. ne (ap s
 pub none_where : {X : Type 0} (o : Option X) → is_some o ≡ false → o ≡ None
 none_where None e = refl
 none_where (Some x) e = cc
+
+pub none_was : {X : Type 0} (o : Option X) (b : Bool) → is_some o ≡ not b → b ≡ true → o ≡ None
+none_was None b e f = refl
+none_was (Some x) b e f = cc

@@ -3,3 +3,8 @@ pub mod Trails
 pub mod Counting
 pub mod Statuses
 pub mod Stores
+pub mod Lists
+pub mod Clauses
+pub mod Forced
+pub mod Queues
+pub mod Engines

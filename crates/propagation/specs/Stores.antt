@@ -78,6 +78,10 @@ IsConflict s h =
 abbrev pub completed : Store → ℕ → Bool → ℕ → List Entry
 completed s n b k = s.entries ++ entries_setting (hint_in s n) b (values_in s) (drop k (constraint_in s n).lits)
 
+-- The hint of the constraint with this number names it.
+abbrev pub IsNumbered : Store → ℕ → Type 0
+IsNumbered s n = IsNamed s.problem s.clauses (hint_in s n) (constraint_in s n)
+
 -- ---- what holds of the parts
 
 -- A constraint that can be propagated. A clause without literals has the lower bound 1 and the upper 0.

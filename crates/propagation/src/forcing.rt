@@ -2,7 +2,7 @@ ghost use Rattle.std.specs.Prelude.{◌≡◌, ◌+◌, ◌<◌, length, IfNone,
 ghost use Rattle.propagation.specs.Constraints.{IsQuiet};
 ghost use Rattle.propagation.specs.Firings.{directed};
 ghost use Rattle.propagation.specs.Statuses.{IsAtBound};
-ghost use Rattle.propagation.specs.Stores.{Grows, HasRoom, IsConflict, IsShaped, OnlyTrailDiffers, completed, constraint_in, constraints_in, values_in};
+ghost use Rattle.propagation.specs.Stores.{Grows, HasRoom, IsConflict, IsNumbered, IsShaped, OnlyTrailDiffers, completed, constraint_in, constraints_in, values_in};
 
 use crate::status::Status;
 use crate::store::Store;
@@ -40,6 +40,7 @@ fn force(store: &mut Store, number: usize, truth: bool)
     requires room { HasRoom store.old }
     ensures entries { store.new.entries ≡ completed store.old number truth 0 }
     ensures bound { IsAtBound truth (values_in store.new) (constraint_in store.new number) }
+    ensures named { IsNumbered store.old number }
     ensures shaped { IsShaped store.old.problem.atoms (constraint_in store.old number) }
     ensures kept { OnlyTrailDiffers store.old store.new }
 {
