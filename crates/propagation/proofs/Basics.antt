@@ -4,7 +4,7 @@ use Rattle.std.specs.Prelude.{slice_set, ◌==◌, ◌||◌, ◌&&◌}
 use Rattle.std.specs.List.{AllByRecursion as Each}
 use Rattle.std.specs.Option.{is_some}
 use Rattle.std.proofs.lemmas.Bool.Decides.{nat_tests, Decides-eqb}
-use Rattle.std.proofs.lemmas.List.{drop_all, take_all, append-nil}
+use Rattle.count_core.proofs.Lists.{written_back}
 
 abbrev pub bit : Bool → ℕ
 bit t = cond t 1 0
@@ -70,9 +70,7 @@ drop_push (x ∷ xs) ys (suc i) le = drop_push xs ys i (omega arith)
 
 -- a list that was lent as a slice and comes back
 pub returned : {X : Type 0} (xs new : List X) (n : ℕ) → n ≡ length xs → length new ≡ length xs → take n (new ++ drop (length new) xs) ≡ new
-returned xs new n is same =
-    let rest : drop (length new) xs ≡ [] = drop_all (length new) xs (omega arith) in
-    rw (rest, append-nil) (take_all n new (omega arith))
+returned xs new n is same = written_back n new xs (same ∙ sym is) (sym is)
 
 -- ---- reads after a write
 

@@ -8,9 +8,9 @@ use Rattle.count_core.specs.declared.hint.Hint.{Hint}
 use Rattle.count_core.specs.declared.hint.Hint.TheVariants.{Rule, Step as Earlier}
 use Rattle.count_core.specs.declared.count_rule.CountRule.{CountRule}
 use Rattle.count_core.specs.Problems.{Problem, IsWellFormed, IsWellFormedRule, are_within, repeats}
-use Rattle.count_core.specs.Partials.{Partial, known, has_sign, is_true, is_false, trues, falses}
+use Rattle.count_core.specs.PartialAssignments.{PartialAssignment, value_at, has_sign, is_true, is_false, trues, falses}
 use Rattle.count_core.proofs.Lists.{count_cons, each_map, each_push}
-use Rattle.count_core.proofs.Forcing.{known_none}
+use Rattle.count_core.proofs.Assigning.{value_at_none}
 use Rattle.propagation.specs.declared.clause.Clause.{Clause}
 use Rattle.propagation.specs.Trails.{Entry, with_true, values_of}
 use Rattle.propagation.specs.Constraints.{rule_of_clause, constraints_of, constraint_at, nth, no_constraint, IsNamed}
@@ -27,12 +27,12 @@ counter_zero zero k = refl
 counter_zero (suc n) zero = refl
 counter_zero (suc n) (suc k) = counter_zero n k
 
-sign_nowhere : (s : Bool) (n a : ℕ) → has_sign s (known (replicate n None) a) ≡ false
-sign_nowhere s n a = go (known (replicate n None) a) refl
+sign_nowhere : (s : Bool) (n a : ℕ) → has_sign s (value_at (replicate n None) a) ≡ false
+sign_nowhere s n a = go (value_at (replicate n None) a) refl
   where
-    go : (o : Option Bool) → known (replicate n None) a ≡ o → has_sign s o ≡ false
+    go : (o : Option Bool) → value_at (replicate n None) a ≡ o → has_sign s o ≡ false
     go None e = refl
-    go (Some c) e = absurd (known_none n a c e)
+    go (Some c) e = absurd (value_at_none n a c e)
 
 none_true : (n : ℕ) (ls : List Lit) → trues (replicate n None) ls ≡ 0
 none_true n [] = refl
@@ -87,16 +87,16 @@ named_more : (problem : Problem) (clauses : List Clause) (c : Clause) (h : Hint)
 named_more problem clauses c (Rule n) r e = e
 named_more problem clauses c (Earlier s) r (k, x, at, step, is) = (k, x, get_front clauses (c ∷ []) k x at, step, is)
 
-caused_one : (problem : Problem) (clauses : List Clause) (c : Clause) (p : Partial) (l : Lit) (o : Option Hint) → IsCaused problem clauses p l o → IsCaused problem (clauses ++ c ∷ []) p l o
+caused_one : (problem : Problem) (clauses : List Clause) (c : Clause) (p : PartialAssignment) (l : Lit) (o : Option Hint) → IsCaused problem clauses p l o → IsCaused problem (clauses ++ c ∷ []) p l o
 caused_one problem clauses c p l None h = tt
 caused_one problem clauses c p l (Some g) (r, named, forces) = (r, named_more problem clauses c g r named, forces)
 
-caused_more : (problem : Problem) (clauses : List Clause) (c : Clause) (es : List Entry) (p : Partial) → AreCaused problem clauses p es → AreCaused problem (clauses ++ c ∷ []) p es
+caused_more : (problem : Problem) (clauses : List Clause) (c : Clause) (es : List Entry) (p : PartialAssignment) → AreCaused problem clauses p es → AreCaused problem (clauses ++ c ∷ []) p es
 caused_more problem clauses c [] p h = tt
 caused_more problem clauses c (e ∷ es) p h = (h.0, caused_one problem clauses c p e.lit e.cause h.1, caused_more problem clauses c es (with_true p e.lit) h.2)
 
 -- a counter more
-module _ (p : Partial) (rules : List CountRule) (r : CountRule) where
+module _ (p : PartialAssignment) (rules : List CountRule) (r : CountRule) where
   counters_push : (f : List Lit → ℕ) (xs : List ℕ) (x : ℕ) → length xs ≡ length rules → ((n : ℕ) → counter xs n ≡ f (nth rules n).lits) → x ≡ f r.lits → (n : ℕ) → counter (xs ++ x ∷ []) n ≡ f (nth (rules ++ r ∷ []) n).lits
   counters_push f xs x len h is n = rw (nth_push xs x 0 n, nth_push rules r no_constraint n, len) (go (length rules == n))
     where

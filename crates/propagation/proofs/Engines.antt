@@ -8,11 +8,11 @@ use Rattle.count_core.specs.declared.hint.Hint.{Hint}
 use Rattle.count_core.specs.declared.hint.Hint.TheVariants.{Rule, Step as Earlier}
 use Rattle.count_core.specs.declared.count_rule.CountRule.{CountRule}
 use Rattle.count_core.specs.Problems.{Problem, are_within, repeats}
-use Rattle.count_core.specs.Assignments.{value_of, signed, makes_true, SatisfiesRule, Satisfies, Follows}
-use Rattle.count_core.specs.Partials.{Partial, known, forced, Agrees}
+use Rattle.count_core.specs.Assignments.{value_of, under_sign, makes_true, SatisfiesRule, Satisfies, Follows}
+use Rattle.count_core.specs.PartialAssignments.{PartialAssignment, value_at, forced_assignment, Agrees}
 use Rattle.count_core.specs.Steps.{is_clause}
 use Rattle.count_core.proofs.Lists.{each_at, each_push, both_true}
-use Rattle.count_core.proofs.Forcing.{nothing_agrees, set_agrees, true_met, forced_agrees}
+use Rattle.count_core.proofs.Agreement.{nothing_agrees, set_agrees, true_met, forced_agrees}
 use Rattle.count_core.proofs.Soundness.{clause_met}
 use Rattle.propagation.specs.declared.clause.Clause.{Clause}
 use Rattle.propagation.specs.Trails.{Entry, with_true, values_of, IsFree}
@@ -21,9 +21,9 @@ use Rattle.propagation.specs.Causes.{IsCaused, AreCaused, MeetsAssumed, MeetsAll
 use Rattle.propagation.specs.Firings.{entries_fired}
 use Rattle.propagation.specs.Occurrences.{counter}
 use Rattle.propagation.specs.Stores.{Store, constraints_in, constraint_in, values_in, HasCausedTrail, OnlyTrailDiffers, Grows}
-use Rattle.propagation.specs.Queues.{AreQuiet, AreKnown, IsNoGreater, IsEngine}
+use Rattle.propagation.specs.Queues.{AreQuiet, AreQuietAt, IsNoGreater, IsEngine}
 use Rattle.propagation.proofs.Trails.{length_values}
-use Rattle.propagation.proofs.Queues.{quiet_grow, known_grow, known_set, known_below, quiet_known}
+use Rattle.propagation.proofs.Queues.{quiet_grow, quiet_at_grow, quiet_at_set, quiet_at_below, quiet_from}
 use Rattle.propagation.proofs.Clauses.{constraints_push, constraint_before}
 
 -- ---- each literal follows
@@ -34,16 +34,16 @@ module _ (v : List Bool) (problem : Problem) (clauses : List Clause) (met : Sati
   named_met (Rule n) r at = each_at (SatisfiesRule v) problem.rules n r met at
   named_met (Earlier s) r (k, c, at, step, is) = rw is (clause_met v c.lits (each_at (λ (x : Clause). Follows problem x.lits) clauses k c held at v met))
 
-  value_is : (s x : Bool) → signed s x ≡ true → x ≡ s
+  value_is : (s x : Bool) → under_sign s x ≡ true → x ≡ s
   value_is true x e = e
   value_is false true e = cc
   value_is false false e = refl
 
-  cause_met : (p : Partial) (l : Lit) (o : Option Hint) → Agrees v p → IsCaused problem clauses p l o → (o ≡ None → makes_true v l ≡ true) → makes_true v l ≡ true
+  cause_met : (p : PartialAssignment) (l : Lit) (o : Option Hint) → Agrees v p → IsCaused problem clauses p l o → (o ≡ None → makes_true v l ≡ true) → makes_true v l ≡ true
   cause_met p l None agrees caused assumed = assumed refl
-  cause_met p l (Some h) agrees (r, named, f) assumed = true_met v (forced p r.lits r.lo r.hi) (forced_agrees v p agrees r.lits r.lo r.hi (named_met h r named)) l f.makes
+  cause_met p l (Some h) agrees (r, named, f) assumed = true_met v (forced_assignment p r.lits r.lo r.hi) (forced_agrees v p agrees r.lits r.lo r.hi (named_met h r named)) l f.makes
 
-  all_met : (es : List Entry) (p : Partial) → Agrees v p → AreCaused problem clauses p es → MeetsAssumed v es → MeetsAll v es
+  all_met : (es : List Entry) (p : PartialAssignment) → Agrees v p → AreCaused problem clauses p es → MeetsAssumed v es → MeetsAll v es
   all_met [] p agrees h assumed = tt
   all_met (e ∷ es) p agrees h assumed =
       let here = cause_met p e.lit e.cause agrees h.1 assumed.0 in
@@ -55,88 +55,88 @@ all_follow s caused held v met assumed = all_met v s.problem s.clauses met held 
 
 -- ---- the parts of an engine
 
-pub free_where : (atoms : ℕ) (es : List Entry) (l : Lit) → l.atom.0 < atoms → known (values_of atoms es) l.atom.0 ≡ None → IsFree (values_of atoms es) l
+pub free_where : (atoms : ℕ) (es : List Entry) (l : Lit) → l.atom.0 < atoms → value_at (values_of atoms es) l.atom.0 ≡ None → IsFree (values_of atoms es) l
 free_where atoms es l lt none = go (values_of atoms es) l.atom.0 (let len = length_values atoms es in omega arith) none
   where
-    go : (p : Partial) (a : ℕ) → a < length p → known p a ≡ None → slice_get p a ≡ Some None
+    go : (p : PartialAssignment) (a : ℕ) → a < length p → value_at p a ≡ None → slice_get p a ≡ Some None
     go [] a lt e = absurd (omega arith)
     go (None ∷ p) zero lt e = refl
     go (Some c ∷ p) zero lt e = cc
     go (o ∷ p) (suc a) lt e = go p a (omega arith) e
 
 -- the trail grows, and nothing was examined
-pub engine_grow : (old new : Store) (es : List Entry) (head examined : ℕ) (known_ : List ℕ) → HasCausedTrail new → IsEngine old head examined known_ → OnlyTrailDiffers old new → new.entries ≡ old.entries ++ es → IsEngine new head examined known_
-engine_grow old new es head examined known_ caused h kept is = record {
+pub engine_grow : (old new : Store) (es : List Entry) (head examined : ℕ) (quiet_at : List ℕ) → HasCausedTrail new → IsEngine old head examined quiet_at → OnlyTrailDiffers old new → new.entries ≡ old.entries ++ es → IsEngine new head examined quiet_at
+engine_grow old new es head examined quiet_at caused h kept is = record {
   head_within = omega (arith, h.head_within, ap length is, length-append old.entries es);
   examined_within = rw (kept.problem, kept.clauses) h.examined_within;
   quiet = quiet_grow old new es head examined [] caused h.quiet kept is h.head_within;
   lengths = rw kept.problem h.lengths;
-  known_within = rw (kept.problem, kept.clauses) h.known_within;
-  are_known = known_grow old new es known_ h.are_known kept is;
+  counts_within = rw (kept.problem, kept.clauses) h.counts_within;
+  are_quiet_at = quiet_at_grow old new es quiet_at h.are_quiet_at kept is;
   follow = rw (kept.problem, kept.clauses) h.follow;
 }
 
-pub engine_same : (old new : Store) (head examined : ℕ) (known_ : List ℕ) → IsEngine old head examined known_ → new.problem ≡ old.problem → new.clauses ≡ old.clauses → new.entries ≡ old.entries → IsEngine new head examined known_
-engine_same old new head examined known_ h problem clauses entries = record {
+pub engine_same : (old new : Store) (head examined : ℕ) (quiet_at : List ℕ) → IsEngine old head examined quiet_at → new.problem ≡ old.problem → new.clauses ≡ old.clauses → new.entries ≡ old.entries → IsEngine new head examined quiet_at
+engine_same old new head examined quiet_at h problem clauses entries = record {
   head_within = rw entries h.head_within;
   examined_within = rw (problem, clauses) h.examined_within;
   quiet = rw (problem, clauses, entries) h.quiet;
   lengths = rw problem h.lengths;
-  known_within = rw (problem, clauses) h.known_within;
-  are_known = rw (problem, clauses, entries) h.are_known;
+  counts_within = rw (problem, clauses) h.counts_within;
+  are_quiet_at = rw (problem, clauses, entries) h.are_quiet_at;
   follow = rw (problem, clauses) h.follow;
 }
 
 -- it was propagated
-pub engine_run : (old new : Store) (head examined more all : ℕ) (known_ : List ℕ) → IsEngine old head examined known_ → OnlyTrailDiffers old new → Grows old new → more ≤ length new.entries → all ≤ length (constraints_in new) → AreQuiet new more all → IsEngine new more all known_
-engine_run old new head examined more all known_ h kept (fs, hf, is) le within quiet = record {
+pub engine_run : (old new : Store) (head examined more all : ℕ) (quiet_at : List ℕ) → IsEngine old head examined quiet_at → OnlyTrailDiffers old new → Grows old new → more ≤ length new.entries → all ≤ length (constraints_in new) → AreQuiet new more all → IsEngine new more all quiet_at
+engine_run old new head examined more all quiet_at h kept (fs, hf, is) le within quiet = record {
   head_within = le;
   examined_within = within;
   quiet = quiet;
   lengths = rw kept.problem h.lengths;
-  known_within = rw (kept.problem, kept.clauses) h.known_within;
-  are_known = known_grow old new (entries_fired (values_in old) fs) known_ h.are_known kept is;
+  counts_within = rw (kept.problem, kept.clauses) h.counts_within;
+  are_quiet_at = quiet_at_grow old new (entries_fired (values_in old) fs) quiet_at h.are_quiet_at kept is;
   follow = rw (kept.problem, kept.clauses) h.follow;
 }
 
 -- all is quiet, which is noted
-pub engine_note : (s : Store) (head examined place : ℕ) (known_ : List ℕ) → IsEngine s head examined known_ → head ≡ length s.entries → examined ≡ length (constraints_in s) → place ≡ length s.entries → length s.entries ≤ s.problem.atoms → IsEngine s head examined (slice_set known_ place examined)
-engine_note s head examined place known_ h e f g few =
+pub engine_note : (s : Store) (head examined place : ℕ) (quiet_at : List ℕ) → IsEngine s head examined quiet_at → head ≡ length s.entries → examined ≡ length (constraints_in s) → place ≡ length s.entries → length s.entries ≤ s.problem.atoms → IsEngine s head examined (slice_set quiet_at place examined)
+engine_note s head examined place quiet_at h e f g few =
     let same : place ≡ head = g ∙ sym e in
     let number = h.lengths in
-    let lt : head < length known_ = omega arith in
+    let lt : head < length quiet_at = omega arith in
     rw same (record {
       head_within = h.head_within;
       examined_within = h.examined_within;
       quiet = h.quiet;
-      lengths = length-set known_ head examined ∙ h.lengths;
-      known_within = known_below known_ head examined (length (constraints_in s)) h.known_within h.examined_within lt;
-      are_known = known_set s known_ head examined h.are_known h.quiet e f lt;
+      lengths = length-set quiet_at head examined ∙ h.lengths;
+      counts_within = quiet_at_below quiet_at head examined (length (constraints_in s)) h.counts_within h.examined_within lt;
+      are_quiet_at = quiet_at_set s quiet_at head examined h.are_quiet_at h.quiet e f lt;
       follow = h.follow;
     })
 
 -- entries were taken away
 pub engine_back : (old new : Store) (head examined left at : ℕ) (before after : List ℕ) → HasCausedTrail new → IsEngine old head examined before → OnlyTrailDiffers old new → new.entries ≡ take left old.entries → left ≤ length old.entries → at ≤ left
-    → AreKnown new after → length after ≡ length before → IsNoGreater after before → IsEngine new at (counter after at) after
-engine_back old new head examined left at before after caused h kept is le low known_ number less = record {
+    → AreQuietAt new after → length after ≡ length before → IsNoGreater after before → IsEngine new at (counter after at) after
+engine_back old new head examined left at before after caused h kept is le low quiet_at number less = record {
   head_within = omega (arith, ap length is, length-take left old.entries);
-  examined_within = rw (kept.problem, kept.clauses) (omega (arith, less at, h.known_within at));
-  quiet = quiet_known new after at caused known_;
+  examined_within = rw (kept.problem, kept.clauses) (omega (arith, less at, h.counts_within at));
+  quiet = quiet_from new after at caused quiet_at;
   lengths = rw kept.problem (number ∙ h.lengths);
-  known_within = λ i. rw (kept.problem, kept.clauses) (omega (arith, less i, h.known_within i));
-  are_known = known_;
+  counts_within = λ i. rw (kept.problem, kept.clauses) (omega (arith, less i, h.counts_within i));
+  are_quiet_at = quiet_at;
   follow = rw (kept.problem, kept.clauses) h.follow;
 }
 
 -- a clause was added
-pub engine_add : (old new : Store) (c : Clause) (head examined : ℕ) (known_ : List ℕ) → IsEngine old head examined known_ → new.problem ≡ old.problem → new.clauses ≡ old.clauses ++ c ∷ [] → new.entries ≡ old.entries → Follows old.problem c.lits → IsEngine new head examined known_
-engine_add old new c head examined known_ h problem clauses entries follows = record {
+pub engine_add : (old new : Store) (c : Clause) (head examined : ℕ) (quiet_at : List ℕ) → IsEngine old head examined quiet_at → new.problem ≡ old.problem → new.clauses ≡ old.clauses ++ c ∷ [] → new.entries ≡ old.entries → Follows old.problem c.lits → IsEngine new head examined quiet_at
+engine_add old new c head examined quiet_at h problem clauses entries follows = record {
   head_within = rw entries h.head_within;
   examined_within = omega (arith, h.examined_within, longer);
   quiet = λ n low un unlisted. (let same = before n (omega (arith, low, h.examined_within)) in rw (same, problem, entries) (h.quiet n low (rw (same, entries) at un) unlisted));
   lengths = rw problem h.lengths;
-  known_within = λ i. omega (arith, h.known_within i, longer);
-  are_known = λ i n low. rw (before n (omega (arith, low, h.known_within i)), problem, entries) (h.are_known i n low);
+  counts_within = λ i. omega (arith, h.counts_within i, longer);
+  are_quiet_at = λ i n low. rw (before n (omega (arith, low, h.counts_within i)), problem, entries) (h.are_quiet_at i n low);
   follow = rw (problem, clauses) (each_push (λ (x : Clause). Follows old.problem x.lits) old.clauses c h.follow follows);
 }
   where

@@ -6,7 +6,7 @@ use Rattle.std.proofs.lemmas.List.{get_or-set_same, get_or-set_other, get_or_def
 use Rattle.count_core.specs.declared.lit.Lit.{Lit}
 use Rattle.count_core.specs.declared.count_rule.CountRule.{CountRule}
 use Rattle.count_core.specs.Problems.{mentions, repeats}
-use Rattle.count_core.specs.Assignments.{signed}
+use Rattle.count_core.specs.Assignments.{under_sign}
 use Rattle.count_core.proofs.Lists.{count_cons, each_map, each_push}
 use Rattle.propagation.specs.declared.occurrence.Occurrence.{Occurrence}
 use Rattle.propagation.specs.Constraints.{nth, no_constraint}
@@ -60,17 +60,17 @@ module _ (lists : List OccurrenceList) (k : ℕ) (v old d : OccurrenceList) (lt 
 
   -- it gets an occurrence
   module _ (o : Occurrence) (pushed : v.items ≡ old.items ++ o ∷ []) where
-    listed_more : (b : Bool) (n a : ℕ) → number_listed b n (items_at (slice_set lists k v) a) ≡ number_listed b n (items_at lists a) + bit ((k == a) && ((o.constraint == n) && signed o.positive b))
+    listed_more : (b : Bool) (n a : ℕ) → number_listed b n (items_at (slice_set lists k v) a) ≡ number_listed b n (items_at lists a) + bit ((k == a) && ((o.constraint == n) && under_sign o.positive b))
     listed_more b n a = go (k == a) refl
       where
-        at_end : (xs : List Occurrence) → number_listed b n (xs ++ o ∷ []) ≡ number_listed b n xs + bit ((o.constraint == n) && signed o.positive b)
+        at_end : (xs : List Occurrence) → number_listed b n (xs ++ o ∷ []) ≡ number_listed b n xs + bit ((o.constraint == n) && under_sign o.positive b)
         at_end [] = refl
         at_end (x ∷ xs) =
-            let f = count_cons (λ (y : Occurrence). (y.constraint == n) && signed y.positive b) x (xs ++ o ∷ []) in
-            let g = count_cons (λ (y : Occurrence). (y.constraint == n) && signed y.positive b) x xs in
+            let f = count_cons (λ (y : Occurrence). (y.constraint == n) && under_sign y.positive b) x (xs ++ o ∷ []) in
+            let g = count_cons (λ (y : Occurrence). (y.constraint == n) && under_sign y.positive b) x xs in
             omega (arith, f, g, at_end xs)
 
-        go : (t : Bool) → (k == a) ≡ t → number_listed b n (items_at (slice_set lists k v) a) ≡ number_listed b n (items_at lists a) + bit (t && ((o.constraint == n) && signed o.positive b))
+        go : (t : Bool) → (k == a) ≡ t → number_listed b n (items_at (slice_set lists k v) a) ≡ number_listed b n (items_at lists a) + bit (t && ((o.constraint == n) && under_sign o.positive b))
         go true e = (let same = same_is k a e in rw (← same, new_items, pushed, old_items) (at_end old.items))
         go false e = rw (other_items a (apart_back k a e)) (omega arith)
 
@@ -100,8 +100,8 @@ module _ (lists was : List OccurrenceList) (ls : List Lit) (i number : ℕ) (d :
   enter_numbers h b n a =
       let more = listed_more lists (get_or ls i d).atom.0 v old x lt is (record { constraint = number; positive = (get_or ls i d).positive }) pushed b n a in
       let before = rw (drop_more ls i d low) at (h b n a) in
-      let split = count_cons (λ (l : Lit). (l.atom.0 == a) && signed l.positive b) (get_or ls i d) (drop (i + 1) ls) in
-      rw more (go (number == n) ((get_or ls i d).atom.0 == a) (signed (get_or ls i d).positive b) before split)
+      let split = count_cons (λ (l : Lit). (l.atom.0 == a) && under_sign l.positive b) (get_or ls i d) (drop (i + 1) ls) in
+      rw more (go (number == n) ((get_or ls i d).atom.0 == a) (under_sign (get_or ls i d).positive b) before split)
     where
       go : (t u s : Bool) → number_listed b n (items_at lists a) + cond t (number_in b a (get_or ls i d ∷ drop (i + 1) ls)) 0 ≡ number_listed b n (items_at was a) + number_if (number == n) b a ls
           → number_in b a (get_or ls i d ∷ drop (i + 1) ls) ≡ bit (u && s) + number_in b a (drop (i + 1) ls)

@@ -10,40 +10,41 @@ use Rattle.count_core.specs.declared.lit.Lit.{Lit}
 use Rattle.count_core.specs.declared.hint.Hint.{Hint}
 use Rattle.count_core.specs.declared.count_rule.CountRule.{CountRule}
 use Rattle.count_core.specs.Problems.{Problem, mentions}
-use Rattle.count_core.specs.Assignments.{signed}
-use Rattle.count_core.specs.Partials.{Partial, known, is_true, is_false, trues, falses, unsets, forces, forced, settle_all}
+use Rattle.count_core.specs.Assignments.{under_sign}
+use Rattle.count_core.specs.PartialAssignments.{PartialAssignment, value_at, is_true, is_false, trues, falses, unsets, forces, forced_assignment, assign_all}
 use Rattle.count_core.proofs.Lists.{count_cons}
-use Rattle.count_core.proofs.Forcing.{known_other, numbers_add, conflicts_is, forces_is, forced_is}
+use Rattle.count_core.proofs.Assigning.{value_at_other}
+use Rattle.count_core.proofs.RuleEffects.{numbers_add, conflicts_is, forces_is, forced_is}
 use Rattle.propagation.specs.declared.clause.Clause.{Clause}
 use Rattle.propagation.specs.declared.occurrence.Occurrence.{Occurrence}
 use Rattle.propagation.specs.Trails.{Entry, with_true, extended, values_of, IsFree, AreFree}
-use Rattle.propagation.specs.Constraints.{IsQuiet, no_constraint}
+use Rattle.propagation.specs.Constraints.{IsQuietConstraint, no_constraint}
 use Rattle.propagation.specs.Causes.{AreCaused}
 use Rattle.propagation.specs.Firings.{Firing, AreFirings, after_firings, entries_forced, entries_fired}
 use Rattle.propagation.specs.Occurrences.{no_occurrence, number_in, is_listed, counter}
 use Rattle.propagation.specs.Stores.{Store, constraints_in, constraint_in, values_in, no_entry, HasCausedTrail, OnlyTrailDiffers, Grows}
-use Rattle.propagation.specs.Queues.{falsifies, affects, is_affected, AreQuietBut, AreQuiet, AreKnown, IsNoGreater}
+use Rattle.propagation.specs.Queues.{falsifies, affects, is_affected, AreQuietBut, AreQuiet, AreQuietAt, IsNoGreater}
 use Rattle.propagation.proofs.Basics.{bit, neither, false_both, same_is, apart_is, each_from, drop_push}
 use Rattle.propagation.proofs.Trails.{extended_append}
-use Rattle.propagation.proofs.Counting.{signed_not, trues_after, falses_after}
+use Rattle.propagation.proofs.Counting.{sign_not, trues_after, falses_after}
 use Rattle.propagation.proofs.Statuses.{calm_within, calm_over, forces_some}
 use Rattle.propagation.proofs.Forced.{extended_setting}
 
 -- ---- a set literal that affects a constraint in no way
 
-module _ (p : Partial) (a : ℕ) (o : Option Bool) where
+module _ (p : PartialAssignment) (a : ℕ) (o : Option Bool) where
   same_numbers : (ls : List Lit) → mentions a ls ≡ false → (trues (slice_set p a o) ls ≡ trues p ls) × (falses (slice_set p a o) ls ≡ falses p ls)
   same_numbers [] e = (refl, refl)
   same_numbers (l ∷ ls) e =
       let parts = neither (l.atom.0 == a) (mentions a ls) e in
       let rest = same_numbers ls parts.1 in
-      let here = known_other p a o l.atom.0 (apart_is l.atom.0 a parts.0) in (
+      let here = value_at_other p a o l.atom.0 (apart_is l.atom.0 a parts.0) in (
         count_cons (is_true (slice_set p a o)) l ls ∙ rw here (ap (λ n. bit (is_true p l) + n) rest.0) ∙ sym (count_cons (is_true p) l ls),
         count_cons (is_false (slice_set p a o)) l ls ∙ rw here (ap (λ n. bit (is_false p l) + n) rest.1) ∙ sym (count_cons (is_false p) l ls),
       )
 
 -- a constraint of the same numbers does the same
-quiet_same : (p q : Partial) (r : CountRule) → trues q r.lits ≡ trues p r.lits → falses q r.lits ≡ falses p r.lits → IsQuiet p r → IsQuiet q r
+quiet_same : (p q : PartialAssignment) (r : CountRule) → trues q r.lits ≡ trues p r.lits → falses q r.lits ≡ falses p r.lits → IsQuietConstraint p r → IsQuietConstraint q r
 quiet_same p q r t f (calm, idle) =
     let u : unsets q r.lits ≡ unsets p r.lits = omega (arith, numbers_add p r.lits, numbers_add q r.lits) in (
       conflicts_is q r.lits r.lo r.hi ∙ rw (t, f) (sym (conflicts_is p r.lits r.lo r.hi) ∙ calm),
@@ -51,8 +52,8 @@ quiet_same p q r t f (calm, idle) =
     )
 
 -- one that any number of true literals satisfies stays quiet where none becomes false
-module _ (p q : Partial) (r : CountRule) (f : falses q r.lits ≡ falses p r.lits) (t : trues p r.lits ≤ trues q r.lits) (wide : length r.lits ≤ r.hi) where
-  quiet_wide : IsQuiet p r → IsQuiet q r
+module _ (p q : PartialAssignment) (r : CountRule) (f : falses q r.lits ≡ falses p r.lits) (t : trues p r.lits ≤ trues q r.lits) (wide : length r.lits ≤ r.hi) where
+  quiet_wide : IsQuietConstraint p r → IsQuietConstraint q r
   quiet_wide (calm, idle) =
       let most = count_by-le-length (is_true q) r.lits in
       let low = (calm_over p r.lits r.lo r.hi calm).1 in
@@ -75,25 +76,25 @@ module _ (p q : Partial) (r : CountRule) (f : falses q r.lits ≡ falses p r.lit
 none_false : (m : Lit) (ls : List Lit) → falsifies m ls ≡ false → number_in (not m.positive) m.atom.0 ls ≡ 0
 none_false m [] e = refl
 none_false m (l ∷ ls) e =
-    let parts = neither ((l.atom.0 == m.atom.0) && not (signed l.positive m.positive)) (falsifies m ls) e in
-    count_cons (λ (x : Lit). (x.atom.0 == m.atom.0) && signed x.positive (not m.positive)) l ls ∙ rw (signed_not l.positive m.positive, parts.0, none_false m ls parts.1) refl
+    let parts = neither ((l.atom.0 == m.atom.0) && not (under_sign l.positive m.positive)) (falsifies m ls) e in
+    count_cons (λ (x : Lit). (x.atom.0 == m.atom.0) && under_sign x.positive (not m.positive)) l ls ∙ rw (sign_not l.positive m.positive, parts.0, none_false m ls parts.1) refl
 
-quiet_unaffected : (p : Partial) (m : Lit) (r : CountRule) → IsFree p m → affects m r ≡ false → IsQuiet p r → IsQuiet (with_true p m) r
+quiet_unaffected : (p : PartialAssignment) (m : Lit) (r : CountRule) → IsFree p m → affects m r ≡ false → IsQuietConstraint p r → IsQuietConstraint (with_true p m) r
 quiet_unaffected p m r free e quiet =
     let parts = neither (falsifies m r.lits) (nat_lt r.hi (length r.lits) && mentions m.atom.0 r.lits) e in
     go (nat_lt r.hi (length r.lits)) refl parts.0 parts.1
   where
-    go : (t : Bool) → nat_lt r.hi (length r.lits) ≡ t → falsifies m r.lits ≡ false → (t && mentions m.atom.0 r.lits) ≡ false → IsQuiet (with_true p m) r
+    go : (t : Bool) → nat_lt r.hi (length r.lits) ≡ t → falsifies m r.lits ≡ false → (t && mentions m.atom.0 r.lits) ≡ false → IsQuietConstraint (with_true p m) r
     go true is f g = (let same = same_numbers p m.atom.0 (Some m.positive) r.lits g in quiet_same p (with_true p m) r same.0 same.1 quiet)
     go false is f g =
         let inside = slice_get_within p m.atom.0 None free in
-        let none : known p m.atom.0 ≡ None = rw free refl in
+        let none : value_at p m.atom.0 ≡ None = rw free refl in
         let down = falses_after p m.atom.0 m.positive inside none r.lits in
         let up = trues_after p m.atom.0 m.positive inside none r.lits in
         let wide : length r.lits ≤ r.hi = grind (arith, nat_tests) in
         quiet_wide p (with_true p m) r (omega (arith, down, none_false m r.lits f)) (omega (arith, up)) wide quiet
 
-pub quiet_extended : (es : List Entry) (p : Partial) (r : CountRule) → AreFree p es → is_affected es r ≡ false → IsQuiet p r → IsQuiet (extended p es) r
+pub quiet_extended : (es : List Entry) (p : PartialAssignment) (r : CountRule) → AreFree p es → is_affected es r ≡ false → IsQuietConstraint p r → IsQuietConstraint (extended p es) r
 quiet_extended [] p r free e quiet = quiet
 quiet_extended (x ∷ es) p r free e quiet =
     let parts = neither (affects x.lit r) (is_affected es r) e in
@@ -110,7 +111,7 @@ unmentioned m r e = rw (none r.lits e, e) (false_both (nat_lt r.hi (length r.lit
 -- ---- a trail that grows
 
 -- later entries of a caused trail are free when their turn comes
-free_rest : (problem : Problem) (clauses : List Clause) (xs ys : List Entry) (p : Partial) → AreCaused problem clauses p (xs ++ ys) → AreFree (extended p xs) ys
+free_rest : (problem : Problem) (clauses : List Clause) (xs ys : List Entry) (p : PartialAssignment) → AreCaused problem clauses p (xs ++ ys) → AreFree (extended p xs) ys
 free_rest problem clauses [] [] p h = tt
 free_rest problem clauses [] (y ∷ ys) p h = (h.0, free_rest problem clauses [] ys (with_true p y.lit) h.2)
 free_rest problem clauses (x ∷ xs) ys p h = free_rest problem clauses xs ys (with_true p x.lit) h.2
@@ -126,32 +127,32 @@ differs_trans a b c f g = record {
   room = omega (arith, f.room, g.room);
 }
 
-firings_append : (problem : Problem) (clauses : List Clause) (fs gs : List Firing) (p : Partial) → AreFirings problem clauses p fs → AreFirings problem clauses (after_firings p fs) gs → AreFirings problem clauses p (fs ++ gs)
+firings_append : (problem : Problem) (clauses : List Clause) (fs gs : List Firing) (p : PartialAssignment) → AreFirings problem clauses p fs → AreFirings problem clauses (after_firings p fs) gs → AreFirings problem clauses p (fs ++ gs)
 firings_append problem clauses [] gs p h k = k
-firings_append problem clauses (f ∷ fs) gs p h k = (h.0, h.1, h.2, firings_append problem clauses fs gs (forced p f.rule.lits f.rule.lo f.rule.hi) h.3 k)
+firings_append problem clauses (f ∷ fs) gs p h k = (h.0, h.1, h.2, firings_append problem clauses fs gs (forced_assignment p f.rule.lits f.rule.lo f.rule.hi) h.3 k)
 
-fired_append : (fs gs : List Firing) (p : Partial) → entries_fired p (fs ++ gs) ≡ entries_fired p fs ++ entries_fired (after_firings p fs) gs
+fired_append : (fs gs : List Firing) (p : PartialAssignment) → entries_fired p (fs ++ gs) ≡ entries_fired p fs ++ entries_fired (after_firings p fs) gs
 fired_append [] gs p = refl
 fired_append (f ∷ fs) gs p =
-    let q = forced p f.rule.lits f.rule.lo f.rule.hi in
+    let q = forced_assignment p f.rule.lits f.rule.lo f.rule.hi in
     rw (fired_append fs gs q) (sym (append_assoc (entries_forced f.hint p f.rule) (entries_fired q fs) (entries_fired (after_firings q fs) gs)))
 
 -- what a constraint adds makes what it forces
-extended_forced : (h : Hint) (p : Partial) (r : CountRule) → forces p r.lits r.lo r.hi ≡ true → extended p (entries_forced h p r) ≡ forced p r.lits r.lo r.hi
+extended_forced : (h : Hint) (p : PartialAssignment) (r : CountRule) → forces p r.lits r.lo r.hi ≡ true → extended p (entries_forced h p r) ≡ forced_assignment p r.lits r.lo r.hi
 extended_forced h p r e =
     extended_setting h (not (trues p r.lits == r.hi)) r.lits p
     ∙ sym (forced_is p r.lits r.lo r.hi ∙ go (trues p r.lits == r.hi) (length r.lits - falses p r.lits == r.lo) (forces_some p r.lits r.lo r.hi e).1)
   where
-    go : (t u : Bool) → (t || u) ≡ true → cond t (settle_all false r.lits p) (cond u (settle_all true r.lits p) p) ≡ settle_all (not t) r.lits p
+    go : (t u : Bool) → (t || u) ≡ true → cond t (assign_all false r.lits p) (cond u (assign_all true r.lits p) p) ≡ assign_all (not t) r.lits p
     go true u e = refl
     go false true e = refl
     go false false e = cc
 
-extended_fired : (problem : Problem) (clauses : List Clause) (fs : List Firing) (p : Partial) → AreFirings problem clauses p fs → extended p (entries_fired p fs) ≡ after_firings p fs
+extended_fired : (problem : Problem) (clauses : List Clause) (fs : List Firing) (p : PartialAssignment) → AreFirings problem clauses p fs → extended p (entries_fired p fs) ≡ after_firings p fs
 extended_fired problem clauses [] p h = refl
 extended_fired problem clauses (f ∷ fs) p h =
-    extended_append p (entries_forced f.hint p f.rule) (entries_fired (forced p f.rule.lits f.rule.lo f.rule.hi) fs)
-    ∙ rw (extended_forced f.hint p f.rule h.2) (extended_fired problem clauses fs (forced p f.rule.lits f.rule.lo f.rule.hi) h.3)
+    extended_append p (entries_forced f.hint p f.rule) (entries_fired (forced_assignment p f.rule.lits f.rule.lo f.rule.hi) fs)
+    ∙ rw (extended_forced f.hint p f.rule h.2) (extended_fired problem clauses fs (forced_assignment p f.rule.lits f.rule.lo f.rule.hi) h.3)
 
 pub grows_same : (a : Store) → Grows a a
 grows_same a = ([], tt, sym (append-nil a.entries))
@@ -206,17 +207,17 @@ module _ (s : Store) (head examined : ℕ) (os : List Occurrence) (k : ℕ) (lt 
   split : (n : ℕ) → is_listed n (drop k os) ≡ (((get_or os k no_occurrence).constraint == n) || is_listed n (drop (k + 1) os))
   split n = rw (drop_more os k no_occurrence lt) refl
 
-  pub quiet_examined : AreQuietBut s head examined (drop k os) → IsQuiet (values_in s) (constraint_in s (get_or os k no_occurrence).constraint) → AreQuietBut s head examined (drop (k + 1) os)
+  pub quiet_examined : AreQuietBut s head examined (drop k os) → IsQuietConstraint (values_in s) (constraint_in s (get_or os k no_occurrence).constraint) → AreQuietBut s head examined (drop (k + 1) os)
   quiet_examined h quiet n low un unlisted = go ((get_or os k no_occurrence).constraint == n) refl
     where
-      go : (t : Bool) → ((get_or os k no_occurrence).constraint == n) ≡ t → IsQuiet (values_in s) (constraint_in s n)
+      go : (t : Bool) → ((get_or os k no_occurrence).constraint == n) ≡ t → IsQuietConstraint (values_in s) (constraint_in s n)
       go true e = rw (← same_is (get_or os k no_occurrence).constraint n e) quiet
       go false e = h n low un (split n ∙ rw (e, unlisted) refl)
 
   pub quiet_passed : AreQuiet s head examined → AreQuietBut s (head + 1) examined (drop k os) → head < length s.entries → affects (get_or s.entries head no_entry).lit (constraint_in s (get_or os k no_occurrence).constraint) ≡ false → AreQuietBut s (head + 1) examined (drop (k + 1) os)
   quiet_passed still h within passed n low un unlisted = go ((get_or os k no_occurrence).constraint == n) refl
     where
-      go : (t : Bool) → ((get_or os k no_occurrence).constraint == n) ≡ t → IsQuiet (values_in s) (constraint_in s n)
+      go : (t : Bool) → ((get_or os k no_occurrence).constraint == n) ≡ t → IsQuietConstraint (values_in s) (constraint_in s n)
       go true e = still n low (first_pending s head (constraint_in s n) within ∙ rw (rw (same_is (get_or os k no_occurrence).constraint n e) at passed, un) refl) refl
       go false e = h n low un (split n ∙ rw (e, unlisted) refl)
 
@@ -225,65 +226,65 @@ pub quiet_end : (s : Store) (head examined : ℕ) (os : List Occurrence) (k : �
 quiet_end s head examined os k past h = rw (drop_all k os past) at h
 
 -- one constraint more was examined
-pub quiet_next : (s : Store) (head examined : ℕ) → AreQuiet s head examined → IsQuiet (values_in s) (constraint_in s examined) → AreQuiet s head (examined + 1)
+pub quiet_next : (s : Store) (head examined : ℕ) → AreQuiet s head examined → IsQuietConstraint (values_in s) (constraint_in s examined) → AreQuiet s head (examined + 1)
 quiet_next s head examined h quiet n low un unlisted = go (n == examined) refl
   where
-    go : (t : Bool) → (n == examined) ≡ t → IsQuiet (values_in s) (constraint_in s n)
+    go : (t : Bool) → (n == examined) ≡ t → IsQuietConstraint (values_in s) (constraint_in s n)
     go true e = rw (same_is n examined e) quiet
     go false e = (let ne = apart_is n examined e in h n (omega arith) un unlisted)
 
 -- nothing is pending: all are quiet
-quiet_all : (s : Store) (head examined : ℕ) → AreQuiet s head examined → head ≡ length s.entries → examined ≡ length (constraints_in s) → (n : ℕ) → n < length (constraints_in s) → IsQuiet (values_in s) (constraint_in s n)
+quiet_all : (s : Store) (head examined : ℕ) → AreQuiet s head examined → head ≡ length s.entries → examined ≡ length (constraints_in s) → (n : ℕ) → n < length (constraints_in s) → IsQuietConstraint (values_in s) (constraint_in s n)
 quiet_all s head examined h e f n low = h n (omega arith) (rw (drop_all head s.entries (omega arith)) refl) refl
 
-pub all_quiet : (s : Store) (head examined : ℕ) → AreQuiet s head examined → head ≡ length s.entries → examined ≡ length (constraints_in s) → Each (IsQuiet (values_in s)) (constraints_in s)
-all_quiet s head examined h e f = each_from (IsQuiet (values_in s)) (constraints_in s) no_constraint (quiet_all s head examined h e f)
+pub all_quiet : (s : Store) (head examined : ℕ) → AreQuiet s head examined → head ≡ length s.entries → examined ≡ length (constraints_in s) → Each (IsQuietConstraint (values_in s)) (constraints_in s)
+all_quiet s head examined h e f = each_from (IsQuietConstraint (values_in s)) (constraints_in s) no_constraint (quiet_all s head examined h e f)
 
 -- ---- what is known at the lengths of the trail
 
-pub known_grow : (old new : Store) (es : List Entry) (known_ : List ℕ) → AreKnown old known_ → OnlyTrailDiffers old new → new.entries ≡ old.entries ++ es → AreKnown new known_
-known_grow old new es known_ h kept is i n low =
+pub quiet_at_grow : (old new : Store) (es : List Entry) (quiet_at : List ℕ) → AreQuietAt old quiet_at → OnlyTrailDiffers old new → new.entries ≡ old.entries ++ es → AreQuietAt new quiet_at
+quiet_at_grow old new es quiet_at h kept is i n low =
     let before = h i n low in
     let le : i ≤ length old.entries = before.0 in
     let same : constraint_in new n ≡ constraint_in old n = rw (kept.problem, kept.clauses) refl in
     (omega (arith, ap length is, length-append old.entries es, before.0), rw (same, kept.problem, is, take-append-le i old.entries es le) before.1)
 
 -- all are quiet at the present length
-pub known_set : (s : Store) (known_ : List ℕ) (head examined : ℕ) → AreKnown s known_ → AreQuiet s head examined → head ≡ length s.entries → examined ≡ length (constraints_in s) → head < length known_ → AreKnown s (slice_set known_ head examined)
-known_set s known_ head examined h quiet e f lt i n low = go (i == head) refl
+pub quiet_at_set : (s : Store) (quiet_at : List ℕ) (head examined : ℕ) → AreQuietAt s quiet_at → AreQuiet s head examined → head ≡ length s.entries → examined ≡ length (constraints_in s) → head < length quiet_at → AreQuietAt s (slice_set quiet_at head examined)
+quiet_at_set s quiet_at head examined h quiet e f lt i n low = go (i == head) refl
   where
-    go : (t : Bool) → (i == head) ≡ t → (i ≤ length s.entries) × IsQuiet (values_of s.problem.atoms (take i s.entries)) (constraint_in s n)
+    go : (t : Bool) → (i == head) ≡ t → (i ≤ length s.entries) × IsQuietConstraint (values_of s.problem.atoms (take i s.entries)) (constraint_in s n)
     go true is =
         let same = same_is i head is in
-        let low' : n < examined = rw (same, get_or-set_same known_ head examined 0 lt) at low in
+        let low' : n < examined = rw (same, get_or-set_same quiet_at head examined 0 lt) at low in
         let whole : take i s.entries ≡ s.entries = take_all i s.entries (omega arith) in
         (omega arith, rw whole (quiet_all s head examined quiet e f n (omega arith)))
-    go false is = h i n (rw (get_or-set_other known_ head i examined 0 (apart_is i head is)) at low)
+    go false is = h i n (rw (get_or-set_other quiet_at head i examined 0 (apart_is i head is)) at low)
 
-pub known_below : (known_ : List ℕ) (head examined most : ℕ) → ((i : ℕ) → counter known_ i ≤ most) → examined ≤ most → head < length known_ → (i : ℕ) → counter (slice_set known_ head examined) i ≤ most
-known_below known_ head examined most h le lt i = go (i == head) refl
+pub quiet_at_below : (quiet_at : List ℕ) (head examined most : ℕ) → ((i : ℕ) → counter quiet_at i ≤ most) → examined ≤ most → head < length quiet_at → (i : ℕ) → counter (slice_set quiet_at head examined) i ≤ most
+quiet_at_below quiet_at head examined most h le lt i = go (i == head) refl
   where
-    go : (t : Bool) → (i == head) ≡ t → counter (slice_set known_ head examined) i ≤ most
-    go true is = rw (same_is i head is, get_or-set_same known_ head examined 0 lt) le
-    go false is = rw (get_or-set_other known_ head i examined 0 (apart_is i head is)) (h i)
+    go : (t : Bool) → (i == head) ≡ t → counter (slice_set quiet_at head examined) i ≤ most
+    go true is = rw (same_is i head is, get_or-set_same quiet_at head examined 0 lt) le
+    go false is = rw (get_or-set_other quiet_at head i examined 0 (apart_is i head is)) (h i)
 
 -- the last entry is taken away, and what was known with it is forgotten
-pub known_pop : (old new : Store) (e : Entry) (known_ : List ℕ) (k : ℕ) → AreKnown old known_ → OnlyTrailDiffers old new → old.entries ≡ new.entries ++ e ∷ [] → k ≡ length old.entries → k < length known_ → AreKnown new (slice_set known_ k 0)
-known_pop old new e known_ k h kept is number lt i n low = go (i == k) refl
+pub quiet_at_pop : (old new : Store) (e : Entry) (quiet_at : List ℕ) (k : ℕ) → AreQuietAt old quiet_at → OnlyTrailDiffers old new → old.entries ≡ new.entries ++ e ∷ [] → k ≡ length old.entries → k < length quiet_at → AreQuietAt new (slice_set quiet_at k 0)
+quiet_at_pop old new e quiet_at k h kept is number lt i n low = go (i == k) refl
   where
-    go : (t : Bool) → (i == k) ≡ t → (i ≤ length new.entries) × IsQuiet (values_of new.problem.atoms (take i new.entries)) (constraint_in new n)
+    go : (t : Bool) → (i == k) ≡ t → (i ≤ length new.entries) × IsQuietConstraint (values_of new.problem.atoms (take i new.entries)) (constraint_in new n)
     go true at =
-        let none : counter (slice_set known_ k 0) i ≡ 0 = rw (same_is i k at) (get_or-set_same known_ k 0 0 lt) in
+        let none : counter (slice_set quiet_at k 0) i ≡ 0 = rw (same_is i k at) (get_or-set_same quiet_at k 0 0 lt) in
         absurd (omega arith)
     go false at =
         let other = apart_is i k at in
-        let before = h i n (rw (get_or-set_other known_ k i 0 0 other) at low) in
+        let before = h i n (rw (get_or-set_other quiet_at k i 0 0 other) at low) in
         let longer : length old.entries ≡ length new.entries + 1 = omega (arith, ap length is, length-append new.entries (e ∷ [])) in
         let le : i ≤ length new.entries = omega (arith, before.0) in
         let same : constraint_in new n ≡ constraint_in old n = rw (kept.problem, kept.clauses) refl in
         (le, rw (same, kept.problem) (rw (is, take-append-le i new.entries (e ∷ []) le) at before.1))
 
-pub forgotten : (known_ : List ℕ) (k : ℕ) → IsNoGreater (slice_set known_ k 0) known_
+pub forgotten : (quiet_at : List ℕ) (k : ℕ) → IsNoGreater (slice_set quiet_at k 0) quiet_at
 forgotten [] k i = omega arith
 forgotten (x ∷ xs) zero zero = omega arith
 forgotten (x ∷ xs) zero (suc i) = omega arith
@@ -291,8 +292,8 @@ forgotten (x ∷ xs) (suc k) zero = omega arith
 forgotten (x ∷ xs) (suc k) (suc i) = forgotten xs k i
 
 -- from a length on at which constraints are known to be quiet, only later entries are pending
-pub quiet_known : (s : Store) (known_ : List ℕ) (head : ℕ) → HasCausedTrail s → AreKnown s known_ → AreQuiet s head (counter known_ head)
-quiet_known s known_ head caused h n low un unlisted =
+pub quiet_from : (s : Store) (quiet_at : List ℕ) (head : ℕ) → HasCausedTrail s → AreQuietAt s quiet_at → AreQuiet s head (counter quiet_at head)
+quiet_from s quiet_at head caused h n low un unlisted =
     let before = h head n low in
     let whole : take head s.entries ++ drop head s.entries ≡ s.entries = take-append-drop head s.entries in
     let after : extended (values_of s.problem.atoms (take head s.entries)) (drop head s.entries) ≡ values_in s = sym (extended_append (replicate s.problem.atoms None) (take head s.entries) (drop head s.entries)) ∙ ap (values_of s.problem.atoms) whole in

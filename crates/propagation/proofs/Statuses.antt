@@ -4,22 +4,16 @@ use Rattle.std.specs.Prelude.{◌==◌, ◌&&◌, ◌||◌, nat_lt}
 use Rattle.std.proofs.lemmas.Bool.Decides.{nat_tests}
 use Rattle.count_core.specs.declared.count_rule.CountRule.{CountRule}
 use Rattle.count_core.specs.declared.lit.Lit.{Lit}
-use Rattle.count_core.specs.Partials.{Partial, trues, falses, unsets, conflicts, forces, forced, settle_all}
+use Rattle.count_core.specs.PartialAssignments.{PartialAssignment, trues, falses, unsets, conflicts, forces, forced_assignment, assign_all}
 use Rattle.count_core.proofs.Lists.{both_true}
-use Rattle.count_core.proofs.Forcing.{numbers_add, conflicts_is, forces_is, forced_is}
+use Rattle.count_core.proofs.RuleEffects.{numbers_add, conflicts_is, forces_is, forced_is, conflicts_outside, quiet_all_set, quiet_between}
 use Rattle.propagation.specs.declared.status.Status.{Status}
 use Rattle.propagation.specs.declared.status.Status.TheVariants.{Conflicting, Forcing, Quiet}
-use Rattle.propagation.specs.Constraints.{IsQuiet}
+use Rattle.propagation.specs.Constraints.{IsQuietConstraint}
 use Rattle.propagation.specs.Statuses.{IsAtBound, HasStatus, HasCounts}
 use Rattle.propagation.proofs.Basics.{false_both, true_either, neither}
 
-module _ (p : Partial) (ls : List Lit) (lo hi : ℕ) where
-  over : hi < trues p ls → conflicts p ls lo hi ≡ true
-  over lt = (let hit : nat_lt hi (trues p ls) ≡ true = grind (arith, nat_tests) in rw (conflicts_is, hit) refl)
-
-  under : length ls - falses p ls < lo → conflicts p ls lo hi ≡ true
-  under lt = (let hit : nat_lt (length ls - falses p ls) lo ≡ true = grind (arith, nat_tests) in conflicts_is p ls lo hi ∙ true_either (nat_lt hi (trues p ls)) (nat_lt (length ls - falses p ls) lo) hit)
-
+module _ (p : PartialAssignment) (ls : List Lit) (lo hi : ℕ) where
   -- the numbers are within the bounds
   pub calm_within : trues p ls ≤ hi → lo ≤ length ls - falses p ls → conflicts p ls lo hi ≡ false
   calm_within a b =
@@ -35,13 +29,6 @@ module _ (p : Partial) (ls : List Lit) (lo hi : ℕ) where
   idle_set none =
       let x : nat_lt 0 (unsets p ls) ≡ false = grind (arith, nat_tests) in
       rw (forces_is, x) refl
-
-  -- it is at no bound
-  idle_between : trues p ls ≢ hi → length ls - falses p ls ≢ lo → forces p ls lo hi ≡ false
-  idle_between a b =
-      let x : (trues p ls == hi) ≡ false = grind (arith, nat_tests) in
-      let y : (length ls - falses p ls == lo) ≡ false = grind (arith, nat_tests) in
-      forces_is p ls lo hi ∙ false_both (nat_lt 0 (unsets p ls)) ((trues p ls == hi) || (length ls - falses p ls == lo)) (rw (x, y) refl)
 
   forces_at : 0 < unsets p ls → ((trues p ls == hi) || (length ls - falses p ls == lo)) ≡ true → forces p ls lo hi ≡ true
   forces_at some bound =
@@ -60,30 +47,26 @@ module _ (p : Partial) (ls : List Lit) (lo hi : ℕ) where
   pub forces_some : forces p ls lo hi ≡ true → (nat_lt 0 (unsets p ls) ≡ true) × (((trues p ls == hi) || (length ls - falses p ls == lo)) ≡ true)
   forces_some e = both_true (nat_lt 0 (unsets p ls)) ((trues p ls == hi) || (length ls - falses p ls == lo)) (sym (forces_is p ls lo hi) ∙ e)
 
-  forced_upper : trues p ls ≡ hi → forced p ls lo hi ≡ settle_all false ls p
+  forced_upper : trues p ls ≡ hi → forced_assignment p ls lo hi ≡ assign_all false ls p
   forced_upper e = (let hit : (trues p ls == hi) ≡ true = grind (arith, nat_tests) in rw (forced_is, hit) refl)
 
-  forced_lower : trues p ls ≢ hi → length ls - falses p ls ≡ lo → forced p ls lo hi ≡ settle_all true ls p
+  forced_lower : trues p ls ≢ hi → length ls - falses p ls ≡ lo → forced_assignment p ls lo hi ≡ assign_all true ls p
   forced_lower ne e =
       let miss : (trues p ls == hi) ≡ false = grind (arith, nat_tests) in
       let hit : (length ls - falses p ls == lo) ≡ true = grind (arith, nat_tests) in
       rw (forced_is, miss, hit) refl
 
 -- the status by the numbers is the status
-pub status_by_counts : (p : Partial) (r : CountRule) (s : Status) → HasCounts (length r.lits) r.lo r.hi (trues p r.lits) (falses p r.lits) s → HasStatus p r s
-status_by_counts p r Conflicting (inl lt) = over p r.lits r.lo r.hi lt
-status_by_counts p r Conflicting (inr lt) = under p r.lits r.lo r.hi lt
-status_by_counts p r (Forcing true) (ne, at, le) = (let add = numbers_add p r.lits in forces_lower p r.lits r.lo r.hi (omega arith) at, (at, le))
-status_by_counts p r (Forcing false) (ne, at, le) = (let add = numbers_add p r.lits in forces_upper p r.lits r.lo r.hi (omega arith) at, (at, le))
-status_by_counts p r Quiet (le, ge, inl e) = (calm_within p r.lits r.lo r.hi le ge, let add = numbers_add p r.lits in idle_set p r.lits r.lo r.hi (omega arith))
-status_by_counts p r Quiet (le, ge, inr (a, b)) = (calm_within p r.lits r.lo r.hi le ge, idle_between p r.lits r.lo r.hi a b)
-
-pub status_counted : (p : Partial) (r : CountRule) (t f : ℕ) → t ≡ trues p r.lits → f ≡ falses p r.lits → (s : Status) → HasCounts (length r.lits) r.lo r.hi t f s → HasStatus p r s
-status_counted p r t f is_t is_f s h = status_by_counts p r s (rw (is_t, is_f) at h)
+pub status_counted : (p : PartialAssignment) (r : CountRule) (t f : ℕ) → t ≡ trues p r.lits → f ≡ falses p r.lits → (s : Status) → HasCounts (length r.lits) r.lo r.hi t f s → HasStatus p r s
+status_counted p r t f ts fs Conflicting h = conflicts_outside p r.lits r.lo r.hi t f ts fs h
+status_counted p r t f ts fs (Forcing true) (ne, at, le) = (let add = numbers_add p r.lits in forces_lower p r.lits r.lo r.hi (omega arith) (omega arith), (omega arith, omega arith))
+status_counted p r t f ts fs (Forcing false) (ne, at, le) = (let add = numbers_add p r.lits in forces_upper p r.lits r.lo r.hi (omega arith) (omega arith), (omega arith, omega arith))
+status_counted p r t f ts fs Quiet (le, ge, inl e) = quiet_all_set p r.lits r.lo r.hi t f ts fs le ge (sym e)
+status_counted p r t f ts fs Quiet (le, ge, inr (a, b)) = quiet_between p r.lits r.lo r.hi t f ts fs le ge a b
 
 -- ---- a constraint at a bound
 
-module _ (b : Bool) (p : Partial) (r : CountRule) where
+module _ (b : Bool) (p : PartialAssignment) (r : CountRule) where
   -- it does not conflict
   pub bound_calm : IsAtBound b p r → conflicts p r.lits r.lo r.hi ≡ false
   bound_calm = go b
@@ -113,10 +96,10 @@ module _ (b : Bool) (p : Partial) (r : CountRule) where
           grind (arith, nat_tests)
 
   -- namely all of its unset literals, in one direction
-  pub bound_forced : IsAtBound b p r → 0 < unsets p r.lits → (0 < length r.lits → r.lo ≤ r.hi) → forced p r.lits r.lo r.hi ≡ settle_all b r.lits p
+  pub bound_forced : IsAtBound b p r → 0 < unsets p r.lits → (0 < length r.lits → r.lo ≤ r.hi) → forced_assignment p r.lits r.lo r.hi ≡ assign_all b r.lits p
   bound_forced = go b
     where
-      go : (b : Bool) → IsAtBound b p r → 0 < unsets p r.lits → (0 < length r.lits → r.lo ≤ r.hi) → forced p r.lits r.lo r.hi ≡ settle_all b r.lits p
+      go : (b : Bool) → IsAtBound b p r → 0 < unsets p r.lits → (0 < length r.lits → r.lo ≤ r.hi) → forced_assignment p r.lits r.lo r.hi ≡ assign_all b r.lits p
       go false (at, le) some order = forced_upper p r.lits r.lo r.hi at
       go true (at, le) some order =
           let add = numbers_add p r.lits in

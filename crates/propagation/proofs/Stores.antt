@@ -8,8 +8,8 @@ use Rattle.std.proofs.lemmas.Option.{slice_get_within, get_or_from_slice_get}
 use Rattle.count_core.specs.declared.lit.Lit.{Lit}
 use Rattle.count_core.specs.declared.count_rule.CountRule.{CountRule}
 use Rattle.count_core.specs.Problems.{Problem, mentions}
-use Rattle.count_core.specs.Assignments.{signed}
-use Rattle.count_core.specs.Partials.{Partial, known, trues, falses}
+use Rattle.count_core.specs.Assignments.{under_sign}
+use Rattle.count_core.specs.PartialAssignments.{PartialAssignment, value_at, trues, falses}
 use Rattle.propagation.specs.declared.clause.Clause.{Clause}
 use Rattle.propagation.specs.declared.occurrence.Occurrence.{Occurrence}
 use Rattle.propagation.specs.Trails.{Entry, lits_of, with_true, extended, values_of, IsFree}
@@ -20,7 +20,7 @@ use Rattle.propagation.specs.Queues.{affects, falsifies}
 use Rattle.propagation.specs.Stores.{IsShaped, IsStore, no_entry}
 use Rattle.propagation.proofs.Basics.{bit, each_nth, neither}
 use Rattle.propagation.proofs.Trails.{extended_append, length_values}
-use Rattle.propagation.proofs.Counting.{trues_after, falses_after, mentions_where_none, number_both, listed_none, listed_some, signed_not}
+use Rattle.propagation.proofs.Counting.{trues_after, falses_after, mentions_where_none, number_both, listed_none, listed_some, sign_not}
 use Rattle.count_core.proofs.Lists.{count_cons}
 
 -- the occurrences that are read at an atom
@@ -29,15 +29,15 @@ items_read lists a v os is at lt = is ∙ ap (λ (q : OccurrenceList). q.items) 
 
 -- ---- causes of entries
 
-pub caused_push : (problem : Problem) (clauses : List Clause) (p : Partial) (es : List Entry) (e : Entry) → AreCaused problem clauses p es → IsFree (extended p es) e.lit → IsCaused problem clauses (extended p es) e.lit e.cause → AreCaused problem clauses p (es ++ e ∷ [])
+pub caused_push : (problem : Problem) (clauses : List Clause) (p : PartialAssignment) (es : List Entry) (e : Entry) → AreCaused problem clauses p es → IsFree (extended p es) e.lit → IsCaused problem clauses (extended p es) e.lit e.cause → AreCaused problem clauses p (es ++ e ∷ [])
 caused_push problem clauses p [] e h free due = (free, due, tt)
 caused_push problem clauses p (x ∷ es) e h free due = (h.0, h.1, caused_push problem clauses (with_true p x.lit) es e h.2 free due)
 
-pub caused_pop : (problem : Problem) (clauses : List Clause) (p : Partial) (es : List Entry) (e : Entry) → AreCaused problem clauses p (es ++ e ∷ []) → AreCaused problem clauses p es × IsFree (extended p es) e.lit
+pub caused_pop : (problem : Problem) (clauses : List Clause) (p : PartialAssignment) (es : List Entry) (e : Entry) → AreCaused problem clauses p (es ++ e ∷ []) → AreCaused problem clauses p es × IsFree (extended p es) e.lit
 caused_pop problem clauses p [] e h = (tt, h.0)
 caused_pop problem clauses p (x ∷ es) e h = (let rest = caused_pop problem clauses (with_true p x.lit) es e h.2 in ((h.0, h.1, rest.0), rest.1))
 
-caused_at : (problem : Problem) (clauses : List Clause) (es : List Entry) (p : Partial) (k : ℕ) (d : Entry) → AreCaused problem clauses p es → k < length es → (get_or es k d).lit.atom.0 < length p
+caused_at : (problem : Problem) (clauses : List Clause) (es : List Entry) (p : PartialAssignment) (k : ℕ) (d : Entry) → AreCaused problem clauses p es → k < length es → (get_or es k d).lit.atom.0 < length p
 caused_at problem clauses [] p k d h lt = absurd (omega arith)
 caused_at problem clauses (e ∷ es) p zero d h lt = slice_get_within p e.lit.atom.0 None h.0
 caused_at problem clauses (e ∷ es) p (suc k) d h lt = (let rest = caused_at problem clauses es (with_true p e.lit) k d h.2 (omega arith) in omega (arith, rest, length-set p e.lit.atom.0 (Some e.lit.positive)))
@@ -53,7 +53,7 @@ lit_within problem clauses es k d h lt =
     let nothing : Option Bool = None in
     rw (lit_read es k d lt) (omega (arith, caused_at problem clauses es (replicate problem.atoms None) k no_entry h lt, length-replicate problem.atoms nothing))
 
-known_free : (p : Partial) (a : ℕ) → slice_get p a ≡ Some None → known p a ≡ None
+known_free : (p : PartialAssignment) (a : ℕ) → slice_get p a ≡ Some None → value_at p a ≡ None
 known_free p a e = rw e refl
 
 -- ---- an entry more or less
@@ -159,12 +159,12 @@ unlisted atoms rules lists a n h e =
 falsified_none : (m : Lit) (ls : List Lit) → number_in (not m.positive) m.atom.0 ls ≡ 0 → falsifies m ls ≡ false
 falsified_none m [] e = refl
 falsified_none m (l ∷ ls) e =
-    go ((l.atom.0 == m.atom.0) && not (signed l.positive m.positive)) refl
-    (rw (signed_not l.positive m.positive) at (sym (count_cons (λ (x : Lit). (x.atom.0 == m.atom.0) && signed x.positive (not m.positive)) l ls) ∙ e))
+    go ((l.atom.0 == m.atom.0) && not (under_sign l.positive m.positive)) refl
+    (rw (sign_not l.positive m.positive) at (sym (count_cons (λ (x : Lit). (x.atom.0 == m.atom.0) && under_sign x.positive (not m.positive)) l ls) ∙ e))
     (falsified_none m ls)
   where
-    go : (t : Bool) → ((l.atom.0 == m.atom.0) && not (signed l.positive m.positive)) ≡ t → bit ((l.atom.0 == m.atom.0) && not (signed l.positive m.positive)) + number_in (not m.positive) m.atom.0 ls ≡ 0 → (number_in (not m.positive) m.atom.0 ls ≡ 0 → falsifies m ls ≡ false)
-        → (((l.atom.0 == m.atom.0) && not (signed l.positive m.positive)) || falsifies m ls) ≡ false
+    go : (t : Bool) → ((l.atom.0 == m.atom.0) && not (under_sign l.positive m.positive)) ≡ t → bit ((l.atom.0 == m.atom.0) && not (under_sign l.positive m.positive)) + number_in (not m.positive) m.atom.0 ls ≡ 0 → (number_in (not m.positive) m.atom.0 ls ≡ 0 → falsifies m ls ≡ false)
+        → (((l.atom.0 == m.atom.0) && not (under_sign l.positive m.positive)) || falsifies m ls) ≡ false
     go true is e rest = (let one = ap bit is in absurd (omega arith))
     go false is e rest = rw is (rest (omega arith))
 
@@ -179,7 +179,7 @@ clause_wide problem clauses n le lt = rw (get_or-append_right problem.rules (map
 
 -- a literal that makes one of a clause's true does not affect it
 pub clause_unaffected : (problem : Problem) (clauses : List Clause) (lists : List OccurrenceList) (m : Lit) (k : ℕ) → Each (IsShaped problem.atoms) (constraints_of problem clauses) → AreListed problem.atoms (constraints_of problem clauses) lists
-    → k < length (items_at lists m.atom.0) → length problem.rules ≤ (get_or (items_at lists m.atom.0) k no_occurrence).constraint → signed (get_or (items_at lists m.atom.0) k no_occurrence).positive m.positive ≡ true
+    → k < length (items_at lists m.atom.0) → length problem.rules ≤ (get_or (items_at lists m.atom.0) k no_occurrence).constraint → under_sign (get_or (items_at lists m.atom.0) k no_occurrence).positive m.positive ≡ true
     → affects m (constraint_at problem clauses (get_or (items_at lists m.atom.0) k no_occurrence).constraint) ≡ false
 clause_unaffected problem clauses lists m k shaped listed lt le sign = rw (falsified_none m (constraint_at problem clauses n).lits none, narrow) refl
   where

@@ -6,60 +6,49 @@ use Rattle.std.proofs.lemmas.List.{length-set, length-replicate, get_or-set_same
 use Rattle.std.proofs.lemmas.Option.{slice_get_within}
 use Rattle.count_core.specs.declared.lit.Lit.{Lit}
 use Rattle.count_core.specs.declared.hint.Hint.{Hint}
-use Rattle.count_core.specs.Partials.{Partial, known, has_sign, is_true}
+use Rattle.count_core.specs.PartialAssignments.{PartialAssignment, value_at, has_sign, is_true}
+use Rattle.count_core.specs.Trails.{unset_number}
+use Rattle.count_core.proofs.Trails.{unset_number_set, unset_number_replicate}
 use Rattle.propagation.specs.Trails.{Entry, lits_of, with_entry, with_true, extended, values_of, IsFree, AreFree, entry_with, IsTrail, IsCauseOf}
 use Rattle.propagation.proofs.Basics.{read_same, read_other}
 
 -- a write that is undone
-undone : (p : Partial) (a : ℕ) (x : Bool) → slice_get p a ≡ Some None → slice_set (slice_set p a (Some x)) a None ≡ p
+undone : (p : PartialAssignment) (a : ℕ) (x : Bool) → slice_get p a ≡ Some None → slice_set (slice_set p a (Some x)) a None ≡ p
 undone [] a x e = refl
 undone (o ∷ p) zero x e = ap (λ y. y ∷ p) cc
 undone (o ∷ p) (suc a) x e = ap (λ q. o ∷ q) (undone p a x e)
 
 -- ---- how many atoms are unset
 
-abbrev unset_number : Partial → ℕ
-unset_number [] = 0
-unset_number (None ∷ p) = suc (unset_number p)
-unset_number (Some b ∷ p) = unset_number p
+unset_less : (p : PartialAssignment) (l : Lit) → IsFree p l → unset_number p ≡ suc (unset_number (with_true p l))
+unset_less p l free = unset_number_set p l.atom.0 l.positive (slice_get_within p l.atom.0 None free) (rw free refl)
 
-unset_less : (p : Partial) (a : ℕ) (x : Bool) → slice_get p a ≡ Some None → unset_number p ≡ suc (unset_number (slice_set p a (Some x)))
-unset_less [] a x e = cc
-unset_less (None ∷ p) zero x e = refl
-unset_less (Some b ∷ p) zero x e = cc
-unset_less (None ∷ p) (suc a) x e = ap suc (unset_less p a x e)
-unset_less (Some b ∷ p) (suc a) x e = unset_less p a x e
-
-unset_all : (n : ℕ) → unset_number (replicate n None) ≡ n
-unset_all zero = refl
-unset_all (suc n) = ap suc (unset_all n)
-
-unset_left : (p : Partial) (es : List Entry) → AreFree p es → unset_number p ≡ unset_number (extended p es) + length es
+unset_left : (p : PartialAssignment) (es : List Entry) → AreFree p es → unset_number p ≡ unset_number (extended p es) + length es
 unset_left p [] h = omega arith
-unset_left p (e ∷ es) h = omega (arith, unset_less p e.lit.atom.0 e.lit.positive h.0, unset_left (with_true p e.lit) es h.1)
+unset_left p (e ∷ es) h = omega (arith, unset_less p e.lit h.0, unset_left (with_true p e.lit) es h.1)
 
 -- there are no more entries than atoms, and fewer where an atom is unset
 pub entries_few : (atoms : ℕ) (es : List Entry) → AreFree (replicate atoms None) es → length es ≤ atoms
-entries_few atoms es free = omega (arith, unset_left (replicate atoms None) es free, unset_all atoms)
+entries_few atoms es free = omega (arith, unset_left (replicate atoms None) es free, unset_number_replicate atoms)
 
 entries_fewer : (atoms : ℕ) (es : List Entry) (l : Lit) → AreFree (replicate atoms None) es → IsFree (values_of atoms es) l → length es < atoms
-entries_fewer atoms es l free here = omega (arith, unset_left (replicate atoms None) es free, unset_all atoms, unset_less (values_of atoms es) l.atom.0 l.positive here)
+entries_fewer atoms es l free here = omega (arith, unset_left (replicate atoms None) es free, unset_number_replicate atoms, unset_less (values_of atoms es) l here)
 
 -- ---- entries in a row
 
-pub extended_append : (p : Partial) (xs ys : List Entry) → extended p (xs ++ ys) ≡ extended (extended p xs) ys
+pub extended_append : (p : PartialAssignment) (xs ys : List Entry) → extended p (xs ++ ys) ≡ extended (extended p xs) ys
 extended_append p [] ys = refl
 extended_append p (x ∷ xs) ys = extended_append (with_true p x.lit) xs ys
 
-free_push : (p : Partial) (es : List Entry) (e : Entry) → AreFree p es → IsFree (extended p es) e.lit → AreFree p (es ++ e ∷ [])
+free_push : (p : PartialAssignment) (es : List Entry) (e : Entry) → AreFree p es → IsFree (extended p es) e.lit → AreFree p (es ++ e ∷ [])
 free_push p [] e h here = (here, tt)
 free_push p (x ∷ es) e h here = (h.0, free_push (with_true p x.lit) es e h.1 here)
 
-free_pop : (p : Partial) (es : List Entry) (e : Entry) → AreFree p (es ++ e ∷ []) → AreFree p es × IsFree (extended p es) e.lit
+free_pop : (p : PartialAssignment) (es : List Entry) (e : Entry) → AreFree p (es ++ e ∷ []) → AreFree p es × IsFree (extended p es) e.lit
 free_pop p [] e h = (tt, h.0)
 free_pop p (x ∷ es) e h = (let rest = free_pop (with_true p x.lit) es e h.1 in ((h.0, rest.0), rest.1))
 
-length_extended : (p : Partial) (es : List Entry) → length (extended p es) ≡ length p
+length_extended : (p : PartialAssignment) (es : List Entry) → length (extended p es) ≡ length p
 length_extended p [] = refl
 length_extended p (e ∷ es) = length_extended (with_true p e.lit) es ∙ length-set p e.lit.atom.0 (Some e.lit.positive)
 
@@ -67,18 +56,18 @@ pub length_values : (atoms : ℕ) (es : List Entry) → length (values_of atoms 
 length_values atoms es = (let nothing : Option Bool = None in length_extended (replicate atoms None) es ∙ length-replicate atoms nothing)
 
 -- what is set stays
-stays_set : (es : List Entry) (p : Partial) (a : ℕ) (b : Bool) → AreFree p es → slice_get p a ≡ Some (Some b) → slice_get (extended p es) a ≡ Some (Some b)
+stays_set : (es : List Entry) (p : PartialAssignment) (a : ℕ) (b : Bool) → AreFree p es → slice_get p a ≡ Some (Some b) → slice_get (extended p es) a ≡ Some (Some b)
 stays_set [] p a b free h = h
 stays_set (e ∷ es) p a b free h =
     let here = free.0 in
     let other : a ≢ e.lit.atom.0 = λ q. (let set : slice_get p e.lit.atom.0 ≡ Some (Some b) = rw q at h in cc) in
     stays_set es (with_true p e.lit) a b free.1 (read_other p e.lit.atom.0 (Some e.lit.positive) a other ∙ h)
 
-first_set : (e : Entry) (es : List Entry) (p : Partial) → AreFree p (e ∷ es) → slice_get (extended p (e ∷ es)) e.lit.atom.0 ≡ Some (Some e.lit.positive)
+first_set : (e : Entry) (es : List Entry) (p : PartialAssignment) → AreFree p (e ∷ es) → slice_get (extended p (e ∷ es)) e.lit.atom.0 ≡ Some (Some e.lit.positive)
 first_set e es p free = (let unset : Option Bool = None in stays_set es (with_true p e.lit) e.lit.atom.0 e.lit.positive free.1 (read_same p e.lit.atom.0 (Some e.lit.positive) unset free.0))
 
 -- an atom that is unset after them is none of theirs
-not_among : (es : List Entry) (p : Partial) (a : ℕ) → AreFree p es → slice_get (extended p es) a ≡ Some None → Each (λ (e : Entry). e.lit.atom.0 ≢ a) es
+not_among : (es : List Entry) (p : PartialAssignment) (a : ℕ) → AreFree p es → slice_get (extended p es) a ≡ Some None → Each (λ (e : Entry). e.lit.atom.0 ≢ a) es
 not_among [] p a free h = tt
 not_among (e ∷ es) p a free h =
     (λ q. (let set : slice_get (extended p (e ∷ es)) a ≡ Some (Some e.lit.positive) = rw (← q) (first_set e es p free) in cc), not_among es (with_true p e.lit) a free.1 h)
@@ -106,7 +95,7 @@ with_other causes a c (l ∷ ls) h =
 
 -- ---- the parts of a trail
 
-module _ (values : Partial) (causes : List (Option Hint)) (ls : List Lit) (atoms : ℕ) (trail : IsTrail values causes ls atoms) where
+module _ (values : PartialAssignment) (causes : List (Option Hint)) (ls : List Lit) (atoms : ℕ) (trail : IsTrail values causes ls atoms) where
   entries : List Entry
   entries = map (entry_with causes) ls
 
@@ -119,10 +108,10 @@ module _ (values : Partial) (causes : List (Option Hint)) (ls : List Lit) (atoms
   pub trail_values : length values ≡ atoms
   trail_values = ap length trail.values_are ∙ length_values atoms (map (entry_with causes) ls)
 
-  pub trail_known : (a : ℕ) (b : Option Bool) → a < atoms → slice_index_or values a b ≡ known (values_of atoms (map (entry_with causes) ls)) a
+  pub trail_known : (a : ℕ) (b : Option Bool) → a < atoms → slice_index_or values a b ≡ value_at (values_of atoms (map (entry_with causes) ls)) a
   trail_known a b lt = rw (← trail.values_are) (go values a (omega (arith, trail_values)))
     where
-      go : (p : Partial) (a : ℕ) → a < length p → slice_index_or p a b ≡ known p a
+      go : (p : PartialAssignment) (a : ℕ) → a < length p → slice_index_or p a b ≡ value_at p a
       go [] a lt = absurd (omega arith)
       go (o ∷ p) zero lt = refl
       go (o ∷ p) (suc a) lt = go p a (omega arith)
@@ -148,7 +137,7 @@ module _ (values : Partial) (causes : List (Option Hint)) (ls : List Lit) (atoms
       free = rw set_entries (free_push (replicate atoms None) (map (entry_with causes) ls) (record { lit = l; cause = c }) trail.free free);
     }
 
-module _ (values : Partial) (causes : List (Option Hint)) (ls : List Lit) (l : Lit) (atoms : ℕ) (trail : IsTrail values causes (ls ++ l ∷ []) atoms) where
+module _ (values : PartialAssignment) (causes : List (Option Hint)) (ls : List Lit) (l : Lit) (atoms : ℕ) (trail : IsTrail values causes (ls ++ l ∷ []) atoms) where
   before : AreFree (replicate atoms None) (map (entry_with causes) ls) × IsFree (values_of atoms (map (entry_with causes) ls)) l
   before = free_pop (replicate atoms None) (map (entry_with causes) ls) (entry_with causes l) (rw (← with_append causes ls l) trail.free)
 
@@ -168,7 +157,7 @@ module _ (values : Partial) (causes : List (Option Hint)) (ls : List Lit) (l : L
 
 -- ---- the cause of a literal
 
-entry_set : (es : List Entry) (p : Partial) (k : ℕ) (e : Entry) → AreFree p es → slice_get es k ≡ Some e → slice_get (extended p es) e.lit.atom.0 ≡ Some (Some e.lit.positive)
+entry_set : (es : List Entry) (p : PartialAssignment) (k : ℕ) (e : Entry) → AreFree p es → slice_get es k ≡ Some e → slice_get (extended p es) e.lit.atom.0 ≡ Some (Some e.lit.positive)
 entry_set [] p k e free at = cc
 entry_set (x ∷ es) p zero e free at =
     let same : x ≡ e = cc in
@@ -184,7 +173,7 @@ own_sign false = refl
 pub entry_true : (atoms : ℕ) (es : List Entry) (k : ℕ) (e : Entry) → AreFree (replicate atoms None) es → slice_get es k ≡ Some e → is_true (values_of atoms es) e.lit ≡ true
 entry_true atoms es k e free at = rw (entry_set es (replicate atoms None) k e free at) (own_sign e.lit.positive)
 
-true_within : (p : Partial) (l : Lit) → is_true p l ≡ true → l.atom.0 < length p
+true_within : (p : PartialAssignment) (l : Lit) → is_true p l ≡ true → l.atom.0 < length p
 true_within p l e = go (slice_get p l.atom.0) refl l.positive e
   where
     go : (o : Option (Option Bool)) → slice_get p l.atom.0 ≡ o → (s : Bool) → has_sign s (option_and_then (λ (x : Option Bool). x) o) ≡ true → l.atom.0 < length p
@@ -200,7 +189,7 @@ cause_with causes (l ∷ ls) zero e at =
     subst P same refl
 cause_with causes (l ∷ ls) (suc k) e at = cause_with causes ls k e at
 
-module _ (values : Partial) (causes : List (Option Hint)) (ls : List Lit) (atoms : ℕ) (trail : IsTrail values causes ls atoms) (l : Lit) where
+module _ (values : PartialAssignment) (causes : List (Option Hint)) (ls : List Lit) (atoms : ℕ) (trail : IsTrail values causes ls atoms) (l : Lit) where
   pub cause_within : is_true values l ≡ true → l.atom.0 < length causes
   cause_within e = omega (arith, true_within values l e, trail_values values causes ls atoms trail, trail.causes_number)
 

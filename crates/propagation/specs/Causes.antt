@@ -6,24 +6,24 @@ use Rattle.count_core.specs.declared.hint.Hint.{Hint}
 use Rattle.count_core.specs.declared.count_rule.CountRule.{CountRule}
 use Rattle.count_core.specs.Problems.{Problem}
 use Rattle.count_core.specs.Assignments.{Satisfies, makes_true}
-use Rattle.count_core.specs.Partials.{Partial, conflicts, forces, forced, is_true}
+use Rattle.count_core.specs.PartialAssignments.{PartialAssignment, conflicts, forces, forced_assignment, is_true}
 use Rattle.propagation.specs.declared.clause.Clause.{Clause}
 use Rattle.propagation.specs.Trails.{Entry, with_true, IsFree}
 use Rattle.propagation.specs.Constraints.{IsNamed}
 
 -- The constraint does not conflict, forces, and makes the literal true.
-pub record Forces (p : Partial) (r : CountRule) (l : Lit) : Type 0 where
+pub record ForcesLit (p : PartialAssignment) (r : CountRule) (l : Lit) : Type 0 where
   pub calm : conflicts p r.lits r.lo r.hi ≡ false
   pub active : forces p r.lits r.lo r.hi ≡ true
-  pub makes : is_true (forced p r.lits r.lo r.hi) l ≡ true
+  pub makes : is_true (forced_assignment p r.lits r.lo r.hi) l ≡ true
 
 -- With p set, the literal was assumed, or a constraint forces it that its cause names.
-abbrev pub IsCaused : Problem → List Clause → Partial → Lit → Option Hint → Type 0
+abbrev pub IsCaused : Problem → List Clause → PartialAssignment → Lit → Option Hint → Type 0
 IsCaused problem clauses p l None = Unit {0}
-IsCaused problem clauses p l (Some h) = (r : CountRule) × IsNamed problem clauses h r × Forces p r l
+IsCaused problem clauses p l (Some h) = (r : CountRule) × IsNamed problem clauses h r × ForcesLit p r l
 
 -- Each literal is free when its turn comes, and caused by what is set before it.
-abbrev pub AreCaused : Problem → List Clause → Partial → List Entry → Type 0
+abbrev pub AreCaused : Problem → List Clause → PartialAssignment → List Entry → Type 0
 AreCaused problem clauses p [] = Unit {0}
 AreCaused problem clauses p (e ∷ es) =
     IsFree p e.lit × IsCaused problem clauses p e.lit e.cause × AreCaused problem clauses (with_true p e.lit) es

@@ -6,7 +6,7 @@ use Rattle.count_core.specs.declared.hint.Hint.{Hint}
 use Rattle.count_core.specs.declared.hint.Hint.TheVariants.{Rule, Step as Earlier}
 use Rattle.count_core.specs.declared.count_rule.CountRule.{CountRule}
 use Rattle.count_core.specs.Problems.{Problem}
-use Rattle.count_core.specs.Partials.{Partial, conflicts, forces}
+use Rattle.count_core.specs.PartialAssignments.{PartialAssignment, IsQuiet}
 use Rattle.count_core.specs.Steps.{clause_rule}
 use Rattle.propagation.specs.declared.clause.Clause.{Clause}
 
@@ -29,8 +29,8 @@ IsNamed problem clauses (Earlier s) r =
     (k : ℕ) × (c : Clause) × (slice_get clauses k ≡ Some c) × (c.step ≡ s) × (r ≡ rule_of_clause c)
 
 -- The constraint neither conflicts nor forces.
-abbrev pub IsQuiet : Partial → CountRule → Type 0
-IsQuiet p r = (conflicts p r.lits r.lo r.hi ≡ false) × (forces p r.lits r.lo r.hi ≡ false)
+abbrev pub IsQuietConstraint : PartialAssignment → CountRule → Type 0
+IsQuietConstraint p r = IsQuiet p r.lits r.lo r.hi
 
 -- ---- by number
 

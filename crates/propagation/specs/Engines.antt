@@ -4,10 +4,10 @@ use Rattle.std.specs.List.{AllByRecursion}
 use Rattle.count_core.specs.declared.hint.Hint.{Hint}
 use Rattle.count_core.specs.declared.count_rule.CountRule.{CountRule}
 use Rattle.count_core.specs.Problems.{Problem}
-use Rattle.count_core.specs.Partials.{Partial, conflicts}
+use Rattle.count_core.specs.PartialAssignments.{PartialAssignment, conflicts}
 use Rattle.propagation.specs.declared.clause.Clause.{Clause}
 use Rattle.propagation.specs.Trails.{Entry, values_of}
-use Rattle.propagation.specs.Constraints.{constraints_of, IsNamed, IsQuiet}
+use Rattle.propagation.specs.Constraints.{constraints_of, IsNamed, IsQuietConstraint}
 use Rattle.propagation.specs.Causes.{AreCaused, AllFollow}
 use Rattle.propagation.specs.Firings.{Firing, AreFirings, entries_fired}
 
@@ -19,7 +19,7 @@ pub record Engine : Type 0 where
   pub room : ℕ
 
 -- what is set
-abbrev pub values_in : Engine → Partial
+abbrev pub values_in : Engine → PartialAssignment
 values_in e = values_of e.problem.atoms e.entries
 
 -- all that is propagated
@@ -28,7 +28,7 @@ constraints_in e = constraints_of e.problem e.clauses
 
 -- No rule and no added clause conflicts, and none forces.
 abbrev pub AllQuiet : Engine → Type 0
-AllQuiet e = AllByRecursion (IsQuiet (values_in e)) (constraints_in e)
+AllQuiet e = AllByRecursion (IsQuietConstraint (values_in e)) (constraints_in e)
 
 -- There is room for an entry of each atom.
 abbrev pub HasRoom : Engine → Type 0

@@ -4,7 +4,7 @@ use Rattle.std.specs.Prelude.{◌≡◌, ℕ, ◌+◌, ◌≤◌, ◌<◌, ◌^�
 use Rattle.std.specs.List.{list_any, AllByRecursion}
 use Rattle.count_core.specs.declared.lit.Lit.{Lit}
 use Rattle.count_core.specs.declared.count_rule.CountRule.{CountRule}
-use Rattle.count_core.specs.Assignments.{signed}
+use Rattle.count_core.specs.Assignments.{under_sign}
 use Rattle.propagation.specs.declared.occurrence.Occurrence.{Occurrence}
 use Rattle.propagation.specs.Constraints.{nth}
 
@@ -29,11 +29,11 @@ room_at lists a = (slice_index_or lists a no_list).room
 
 -- how many listed literals of constraint n are true where the atom has this value
 abbrev pub number_listed : Bool → ℕ → List Occurrence → ℕ
-number_listed b n os = count_by (λ (o : Occurrence). (o.constraint == n) && signed o.positive b) os
+number_listed b n os = count_by (λ (o : Occurrence). (o.constraint == n) && under_sign o.positive b) os
 
 -- how many of the literals are over the atom, and true where it has this value
 abbrev pub number_in : Bool → ℕ → List Lit → ℕ
-number_in b a ls = count_by (λ (l : Lit). (l.atom.0 == a) && signed l.positive b) ls
+number_in b a ls = count_by (λ (l : Lit). (l.atom.0 == a) && under_sign l.positive b) ls
 
 -- that number, or 0 where it does not count
 abbrev pub number_if : Bool → Bool → ℕ → List Lit → ℕ

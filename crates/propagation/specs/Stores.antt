@@ -5,12 +5,13 @@ use Rattle.count_core.specs.declared.lit.Lit.{Lit}
 use Rattle.count_core.specs.declared.hint.Hint.{Hint}
 use Rattle.count_core.specs.declared.count_rule.CountRule.{CountRule}
 use Rattle.count_core.specs.Problems.{Problem, are_within, repeats}
-use Rattle.count_core.specs.Partials.{Partial, trues, falses, conflicts}
+use Rattle.count_core.specs.PartialAssignments.{PartialAssignment, trues, falses, conflicts}
 use Rattle.propagation.specs.declared.clause.Clause.{Clause}
 use Rattle.propagation.specs.Trails.{Entry, values_of}
-use Rattle.propagation.specs.Constraints.{constraints_of, constraint_at, hint_at, nth, IsNamed}
-use Rattle.propagation.specs.Causes.{AreCaused}
+use Rattle.propagation.specs.Constraints.{constraints_of, constraint_at, hint_at, nth, IsNamed, IsQuietConstraint}
+use Rattle.propagation.specs.Causes.{IsCaused, AreCaused}
 use Rattle.propagation.specs.Firings.{Firing, AreFirings, entries_fired, entries_setting}
+use Rattle.propagation.specs.Statuses.{IsAtBound}
 use Rattle.propagation.specs.Occurrences.{OccurrenceList, no_occurrence, items_at, counter, AreListed, AreShort}
 
 pub record Store : Type 0 where
@@ -29,7 +30,7 @@ constraint_in s n = constraint_at s.problem s.clauses n
 abbrev pub hint_in : Store → ℕ → Hint
 hint_in s n = hint_at s.problem s.clauses n
 
-abbrev pub values_in : Store → Partial
+abbrev pub values_in : Store → PartialAssignment
 values_in s = values_of s.problem.atoms s.entries
 
 abbrev pub no_entry : Entry
@@ -54,6 +55,18 @@ HasRoom s = s.problem.atoms ≤ s.room
 -- Each literal was assumed or is forced by its cause.
 abbrev pub HasCausedTrail : Store → Type 0
 HasCausedTrail s = AreCaused s.problem s.clauses (replicate s.problem.atoms None) s.entries
+
+-- With what is set, the literal was assumed, or a constraint forces it that its cause names.
+abbrev pub IsCausedIn : Store → Lit → Option Hint → Type 0
+IsCausedIn s l c = IsCaused s.problem s.clauses (values_in s) l c
+
+-- The constraint with this number is quiet.
+abbrev pub IsQuietIn : Store → ℕ → Type 0
+IsQuietIn s n = IsQuietConstraint (values_in s) (constraint_in s n)
+
+-- The constraint with this number does not conflict, and is at its lower bound (true) or its upper one.
+abbrev pub IsAtBoundIn : Store → ℕ → Bool → Type 0
+IsAtBoundIn s n b = IsAtBound b (values_in s) (constraint_in s n)
 
 -- All but the entries stays, and there is no less room.
 pub record OnlyTrailDiffers (old new : Store) : Type 0 where
@@ -91,7 +104,7 @@ pub record IsShaped (atoms : ℕ) (r : CountRule) : Type 0 where
   pub bounds : 0 < length r.lits → r.lo ≤ r.hi
 
 -- The true and the false literals of each constraint are counted.
-pub record AreCounted (p : Partial) (rules : List CountRule) (ts fs : List ℕ) : Type 0 where
+pub record AreCounted (p : PartialAssignment) (rules : List CountRule) (ts fs : List ℕ) : Type 0 where
   pub trues : (n : ℕ) → counter ts n ≡ trues p (nth rules n).lits
   pub falses : (n : ℕ) → counter fs n ≡ falses p (nth rules n).lits
   pub trues_number : length ts ≡ length rules

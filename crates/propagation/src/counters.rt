@@ -1,6 +1,6 @@
 ghost use Rattle.std.specs.Prelude.{◌≡◌, length, not};
-ghost use Rattle.count_core.specs.Assignments.{signed};
-ghost use Rattle.count_core.specs.Partials.{is_true, is_false, trues, falses};
+ghost use Rattle.count_core.specs.Assignments.{under_sign};
+ghost use Rattle.count_core.specs.PartialAssignments.{is_true, is_false, trues, falses};
 ghost use Rattle.propagation.specs.Occurrences.{AreBelow, CanFall, CanRise, IsRaised};
 
 use crate::occurrence::Occurrence;
@@ -14,8 +14,8 @@ pub(crate) struct Counts {
 }
 
 /// Whether a literal of this sign is true where its atom has the value.
-pub(crate) fn signed(positive: bool, value: bool) -> bool
-    ensures { result ≡ signed positive value }
+pub(crate) fn under_sign(positive: bool, value: bool) -> bool
+    ensures { result ≡ under_sign positive value }
 {
     if positive { value } else { !value }
 }
@@ -36,7 +36,7 @@ pub(crate) fn count_in(
 {
     for occurrence in occurrences {
         let place = occurrence.constraint as usize;
-        if signed(occurrence.positive, value) {
+        if under_sign(occurrence.positive, value) {
             trues[place] += 1;
         } else {
             falses[place] += 1;
@@ -60,7 +60,7 @@ pub(crate) fn count_out(
 {
     for occurrence in occurrences {
         let place = occurrence.constraint as usize;
-        if signed(occurrence.positive, value) {
+        if under_sign(occurrence.positive, value) {
             trues[place] -= 1;
         } else {
             falses[place] -= 1;

@@ -1,7 +1,7 @@
 ghost use Rattle.std.specs.Prelude.{◌≡◌, ◌≤◌, ◌<◌, [], length, take, true, false, IfOk, OnOk, OnErr, None};
 ghost use Rattle.std.specs.Arc.{arc_value};
 ghost use Rattle.count_core.specs.Assignments.{Follows};
-ghost use Rattle.count_core.specs.Partials.{is_true, is_unset};
+ghost use Rattle.count_core.specs.PartialAssignments.{is_true, is_unset};
 ghost use Rattle.count_core.specs.Steps.{is_clause};
 ghost use Rattle.count_core.specs.declared.hint.Hint.{Hint as Cause};
 ghost use Rattle.propagation.specs.Constraints.{with_clause};
@@ -10,25 +10,25 @@ ghost use Rattle.propagation.specs.Trails.{IsCauseOf, lits_of, with_entry};
 
 use crate::found::Found;
 use crate::mark::Mark;
-use crate::queue::{last_known, run, unwind};
+use crate::queue::{last_quiet, run, unwind};
 use crate::store::Store;
 use count_core::{Hint, Lit, NoMemory, SharedProblem};
 use std::alloc::Global;
 use std::marker::Model;
 
-/// An engine over a problem: it sets what follows from the literals that were assumed. Contracts see
-/// a record of the problem, the clauses that were added, the entries of the trail, and for how many
-/// entries there is room.
+/// An engine over a problem: it sets what follows from the literals that were assumed. Contracts
+/// see a record of the problem, the clauses that were added, the entries of the trail, and for how
+/// many entries there is room.
 ///
-/// `head` is the first entry whose occurrences may not all have been examined, `examined` how many
-/// of the first constraints were examined at all, and `known` has, for each length of the trail, how
-/// many of the first constraints are known to be quiet there, or 0.
+/// `head` is the first entry whose occurrences may not all have been examined, and `examined` is how
+/// many of the first constraints were examined at all. `quiet_at` has, for each length of the trail,
+/// how many of the first constraints are known to be quiet there, or 0.
 #[derive(Drop)]
 pub struct Engine {
     store: Store,
     head: usize,
     examined: usize,
-    known: Vec<usize>,
+    quiet_at: Vec<usize>,
 }
 
 impl Model for Engine {
@@ -37,9 +37,10 @@ impl Model for Engine {
 
     ghost Value = { spec.Engine };
 
-    ghost view = { λ e. record { problem = e.store.problem; clauses = e.store.clauses; entries = e.store.entries; room = e.store.room } };
+    ghost view = { λ e. record { problem = e.store.problem; clauses = e.store.clauses;
+        entries = e.store.entries; room = e.store.room } };
 
-    ghost invariant = { λ e. IsEngine e.store e.head e.examined e.known.items };
+    ghost invariant = { λ e. IsEngine e.store e.head e.examined e.quiet_at.items };
 }
 
 impl Engine {
@@ -51,12 +52,12 @@ impl Engine {
     {
         let atoms = problem.atoms() as usize;
         let store = Store::new(alloc, problem)?;
-        let known: Vec<usize> = vec![in alloc; 0; atoms + 1]?;
+        let quiet_at: Vec<usize> = vec![in alloc; 0; atoms + 1]?;
         Ok(Engine {
             store,
             head: 0,
             examined: 0,
-            known,
+            quiet_at,
         })
     }
 
@@ -102,7 +103,7 @@ impl Engine {
         match found {
             Some(cause) => Found::Conflict { cause },
             None => {
-                self.known[length] = self.examined;
+                self.quiet_at[length] = self.examined;
                 Found::Quiet
             }
         }
@@ -145,9 +146,9 @@ impl Engine {
         ensures kept { OnlyTrailDiffers self.old self.new }
     {
         let left = mark.0 as usize;
-        unwind(&mut self.store, &mut self.known, left);
-        self.head = last_known(&self.known, left);
-        self.examined = self.known[self.head];
+        unwind(&mut self.store, &mut self.quiet_at, left);
+        self.head = last_quiet(&self.quiet_at, left);
+        self.examined = self.quiet_at[self.head];
     }
 
     /// The cause of a literal that is set true and was not assumed; none for any other literal.

@@ -1,8 +1,6 @@
 ghost use Rattle.std.specs.Prelude.{◌≡◌, ◌+◌, ◌<◌, length, IfNone, IfSome};
-ghost use Rattle.propagation.specs.Constraints.{IsQuiet};
 ghost use Rattle.propagation.specs.Firings.{directed};
-ghost use Rattle.propagation.specs.Statuses.{IsAtBound};
-ghost use Rattle.propagation.specs.Stores.{Grows, HasRoom, IsConflict, IsNumbered, IsShaped, OnlyTrailDiffers, completed, constraint_in, constraints_in, values_in};
+ghost use Rattle.propagation.specs.Stores.{Grows, HasRoom, IsAtBoundIn, IsConflict, IsNumbered, IsQuietIn, IsShaped, OnlyTrailDiffers, completed, constraint_in, constraints_in};
 
 use crate::status::Status;
 use crate::store::Store;
@@ -12,17 +10,18 @@ use count_core::{Hint, Lit};
 fn directed(lit: Lit, truth: bool) -> Lit
     ensures { result ≡ directed truth lit }
 {
-    if truth { lit } else { lit.negated() }
+    if truth { lit } else { lit.negation() }
 }
 
 /// Sets the literal at this place of the constraint true, or false, if it is unset.
 fn force_lit(store: &mut Store, number: usize, place: usize, truth: bool)
     requires number { number < length (constraints_in store.old) }
     requires place { place < length (constraint_in store.old number).lits }
-    requires bound { IsAtBound truth (values_in store.old) (constraint_in store.old number) }
+    requires bound { IsAtBoundIn store.old number truth }
     requires room { HasRoom store.old }
-    ensures entries { completed store.new number truth (place + 1) ≡ completed store.old number truth place }
-    ensures bound { IsAtBound truth (values_in store.new) (constraint_in store.new number) }
+    ensures entries { completed store.new number truth (place + 1)
+        ≡ completed store.old number truth place }
+    ensures bound { IsAtBoundIn store.new number truth }
     ensures kept { OnlyTrailDiffers store.old store.new }
 {
     let constraint = store.constraint(number);
@@ -36,10 +35,10 @@ fn force_lit(store: &mut Store, number: usize, place: usize, truth: bool)
 /// Sets each unset literal of the constraint true, or each false.
 fn force(store: &mut Store, number: usize, truth: bool)
     requires number { number < length (constraints_in store.old) }
-    requires bound { IsAtBound truth (values_in store.old) (constraint_in store.old number) }
+    requires bound { IsAtBoundIn store.old number truth }
     requires room { HasRoom store.old }
     ensures entries { store.new.entries ≡ completed store.old number truth 0 }
-    ensures bound { IsAtBound truth (values_in store.new) (constraint_in store.new number) }
+    ensures bound { IsAtBoundIn store.new number truth }
     ensures named { IsNumbered store.old number }
     ensures shaped { IsShaped store.old.problem.atoms (constraint_in store.old number) }
     ensures kept { OnlyTrailDiffers store.old store.new }
@@ -55,7 +54,7 @@ pub(crate) fn examine(store: &mut Store, number: usize) -> Option<Hint>
     requires number { number < length (constraints_in store.old) }
     requires room { HasRoom store.old }
     ensures conflict { IfSome result (λ h. IsConflict store.new h) }
-    ensures quiet { IfNone result (IsQuiet (values_in store.new) (constraint_in store.new number)) }
+    ensures quiet { IfNone result (IsQuietIn store.new number) }
     ensures grows { Grows store.old store.new }
     ensures kept { OnlyTrailDiffers store.old store.new }
 {

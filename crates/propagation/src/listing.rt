@@ -1,5 +1,6 @@
-ghost use Rattle.std.specs.Prelude.{◌≡◌, ◌<◌, ◌^◌, ℕ, [], length, true, false, IfOk, OnOk};
+ghost use Rattle.std.specs.Prelude.{◌≡◌, ◌<◌, ℕ, [], length, true, false, IfOk, OnOk};
 ghost use Rattle.std.specs.List.{AllByRecursion};
+ghost use Rattle.count_core.specs.Limits.{number_limit};
 ghost use Rattle.count_core.specs.Problems.{IsWellFormedRule, are_within, repeats};
 ghost use Rattle.propagation.specs.Occurrences.{AreEntered, AreListed, HaveRoomFor, HaveSameItems, IsEmptyAt, AreShort};
 
@@ -50,7 +51,7 @@ pub(crate) fn enter(lists: &mut [OccurrenceList], lits: &[Lit], number: u32)
 /// Enters the literals of all rules, numbered from 0.
 pub(crate) fn enter_rules(lists: &mut [OccurrenceList], rules: &[CountRule]) -> Result<(), NoMemory>
     requires formed { AllByRecursion (IsWellFormedRule (length lists.old)) rules.now }
-    requires few { length rules.now < 2 ^ 32 }
+    requires few { length rules.now < number_limit }
     requires empty { (a : ℕ) → IsEmptyAt lists.old a }
     ensures listed { OnOk result (AreListed (length lists.old) rules.now lists.new) }
     ensures short { OnOk result (AreShort rules.now) }

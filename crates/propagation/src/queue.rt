@@ -1,5 +1,5 @@
 ghost use Rattle.std.specs.Prelude.{◌≡◌, ◌+◌, ◌≤◌, ◌<◌, length, take, IfNone, IfSome};
-ghost use Rattle.propagation.specs.Queues.{AreKnown, AreQuiet, IsNoGreater};
+ghost use Rattle.propagation.specs.Queues.{AreQuietAt, AreQuiet, IsNoGreater};
 ghost use Rattle.propagation.specs.Stores.{Grows, HasCausedTrail, HasRoom, IsConflict, OnlyTrailDiffers, constraints_in};
 
 use crate::forcing::examine;
@@ -19,7 +19,7 @@ fn visit(store: &mut Store, head: usize, examined: usize) -> Option<Hint>
     ensures kept { OnlyTrailDiffers store.old store.new }
 {
     let lit = store.lit_at(head);
-    let count = store.occurrence_number(lit.atom);
+    let count = store.occurrence_count(lit.atom);
     for place in 0..count {
         let Some(number) = store.affected(lit, place) else {
             continue;
@@ -55,7 +55,7 @@ pub(crate) fn run(store: &mut Store, head: &mut usize, examined: &mut usize) -> 
                 return Some(hint);
             }
             *head += 1;
-        } else if *examined < store.number() {
+        } else if *examined < store.constraint_count() {
             let found = examine(store, *examined);
             let _length = store.len();
             if let Some(hint) = found {
@@ -69,30 +69,30 @@ pub(crate) fn run(store: &mut Store, head: &mut usize, examined: &mut usize) -> 
 }
 
 /// Takes entries away until so many are left. What was known at the greater lengths is forgotten.
-pub(crate) fn unwind(store: &mut Store, known: &mut [usize], left: usize)
+pub(crate) fn unwind(store: &mut Store, quiet_at: &mut [usize], left: usize)
     requires left { left ≤ length store.old.entries }
-    requires lengths { length known.old ≡ store.old.problem.atoms + 1 }
-    requires known { AreKnown store.old known.old }
+    requires lengths { length quiet_at.old ≡ store.old.problem.atoms + 1 }
+    requires quiet_at { AreQuietAt store.old quiet_at.old }
     ensures entries { store.new.entries ≡ take left store.old.entries }
     ensures kept { OnlyTrailDiffers store.old store.new }
-    ensures known { AreKnown store.new known.new }
+    ensures quiet_at { AreQuietAt store.new quiet_at.new }
     ensures caused { HasCausedTrail store.new }
     ensures few { left ≤ store.new.problem.atoms }
-    ensures less { IsNoGreater known.new known.old }
+    ensures less { IsNoGreater quiet_at.new quiet_at.old }
 {
     while store.len() > left {
-        known[store.len()] = 0;
+        quiet_at[store.len()] = 0;
         store.pop();
     }
 }
 
 /// The last length of the trail, up to this one, at which constraints are known to be quiet, or 0.
-pub(crate) fn last_known(known: &[usize], from: usize) -> usize
-    requires { from < length known.now }
+pub(crate) fn last_quiet(quiet_at: &[usize], from: usize) -> usize
+    requires { from < length quiet_at.now }
     ensures { result ≤ from }
 {
     let mut place = from;
-    while place > 0 && known[place] == 0 {
+    while place > 0 && quiet_at[place] == 0 {
         place -= 1;
     }
     place

@@ -1,19 +1,18 @@
 ghost use Rattle.std.specs.Prelude.{◌≡◌, ◌≤◌, ◌<◌, ◌^◌, ◌++◌, ◌∷◌, [], ℕ, length, true, false, IfOk, OnOk, OnErr, IfSome, IfNone, None};
 ghost use Rattle.std.specs.Arc.{arc_value};
-ghost use Rattle.count_core.specs.Partials.{is_true, known};
+ghost use Rattle.count_core.specs.PartialAssignments.{is_true, value_at};
 ghost use Rattle.count_core.specs.Problems.{IsWellFormed, are_within, repeats};
-ghost use Rattle.propagation.specs.Causes.{IsCaused};
 ghost use Rattle.propagation.specs.Constraints.{IsNamed, with_clause};
 ghost use Rattle.propagation.specs.Occurrences.{AreListed, AreShort, items_at};
 ghost use Rattle.propagation.specs.Queues.{affects, HasNone};
 ghost use Rattle.propagation.specs.Statuses.{HasStatus};
-ghost use Rattle.propagation.specs.Stores.{HasRoom, HasCausedTrail, IsShaped, OnlyTrailDiffers, constraint_in, constraint_listed, constraints_in, entry_in, hint_in, listed_at, values_in};
+ghost use Rattle.propagation.specs.Stores.{HasRoom, HasCausedTrail, IsCausedIn, IsShaped, OnlyTrailDiffers, constraint_in, constraint_listed, constraints_in, entry_in, hint_in, listed_at, values_in};
 ghost use Rattle.propagation.specs.Trails.{Entry, IsCauseOf, IsFree, lits_of, with_entry};
 ghost use Rattle.propagation.specs.Views.{rule_in};
 
 use crate::clause::Clause;
 use crate::constraint::{Constraint, find};
-use crate::counters::{Counts, count_in, count_out, counts_of, signed};
+use crate::counters::{Counts, count_in, count_out, counts_of, under_sign};
 use crate::listing::{empty_lists, enter, enter_rules, reserve_for};
 use crate::occurrence_list::OccurrenceList;
 use crate::status::{Status, status_of};
@@ -41,9 +40,11 @@ impl Model for Store {
 
     ghost Value = { spec.Store };
 
-    ghost view = { λ s. record { problem = arc_value s.problem; clauses = s.clauses.items; entries = s.trail.entries; room = s.trail.room; lists = s.lists.items } };
+    ghost view = { λ s. record { problem = arc_value s.problem; clauses = s.clauses.items;
+        entries = s.trail.entries; room = s.trail.room; lists = s.lists.items } };
 
-    ghost invariant = { λ s. spec.IsStore (arc_value s.problem) s.clauses.items s.trail.atoms s.trail.entries s.trues.items s.falses.items s.lists.items };
+    ghost invariant = { λ s. spec.IsStore (arc_value s.problem) s.clauses.items s.trail.atoms
+        s.trail.entries s.trues.items s.falses.items s.lists.items };
 }
 
 impl Store {
@@ -135,7 +136,7 @@ impl Store {
     }
 
     /// The number of constraints.
-    pub(crate) fn number(&self) -> usize
+    pub(crate) fn constraint_count(&self) -> usize
         ensures { result ≡ length (constraints_in self.now) }
     {
         self.trues.len()
@@ -151,7 +152,7 @@ impl Store {
     /// The atom's value, if it has one.
     pub(crate) fn value(&self, atom: Atom) -> Option<bool>
         requires { atom.0 < self.now.problem.atoms }
-        ensures { result ≡ known (values_in self.now) atom.0 }
+        ensures { result ≡ value_at (values_in self.now) atom.0 }
     {
         self.trail.value(atom)
     }
@@ -174,7 +175,7 @@ impl Store {
     }
 
     /// The number of occurrences of the atom.
-    pub(crate) fn occurrence_number(&self, atom: Atom) -> usize
+    pub(crate) fn occurrence_count(&self, atom: Atom) -> usize
         requires { atom.0 < self.now.problem.atoms }
         ensures number { result ≡ length (items_at self.now.lists atom.0) }
         ensures others { (n : ℕ) → HasNone self.now atom.0 n }
@@ -182,8 +183,8 @@ impl Store {
         self.lists[atom.0 as usize].as_slice().len()
     }
 
-    /// The number of the constraint at this place of the occurrences of the set literal's atom; none
-    /// where it is a clause in which the literal is true, so that it need not be looked at.
+    /// The number of the constraint at this place of the occurrences of the set literal's atom. None
+    /// where it is a clause in which the literal is true, which need not be examined.
     pub(crate) fn affected(&self, lit: Lit, place: usize) -> Option<usize>
         requires atom { lit.atom.0 < self.now.problem.atoms }
         requires place { place < length (items_at self.now.lists lit.atom.0) }
@@ -193,7 +194,7 @@ impl Store {
     {
         let occurrence = self.lists[lit.atom.0 as usize].as_slice()[place];
         let number = occurrence.constraint as usize;
-        if number >= self.problem.rules().len() && signed(occurrence.positive, lit.positive) {
+        if number >= self.problem.rules().len() && under_sign(occurrence.positive, lit.positive) {
             return None;
         }
         Some(number)
@@ -202,7 +203,7 @@ impl Store {
     /// Sets a literal whose atom is unset.
     pub(crate) fn set(&mut self, lit: Lit, cause: Option<Hint>)
         requires free { IsFree (values_in self.old) lit }
-        requires caused { IsCaused self.old.problem self.old.clauses (values_in self.old) lit cause }
+        requires caused { IsCausedIn self.old lit cause }
         requires room { HasRoom self.old }
         ensures entries { self.new.entries ≡ with_entry self.old.entries lit cause }
         ensures kept { OnlyTrailDiffers self.old self.new }

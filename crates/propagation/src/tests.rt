@@ -1,5 +1,7 @@
-ghost use Rattle.std.specs.Prelude.{◌≡◌, ◌<◌, ◌^◌, ◌++◌, ◌∷◌, [], length, map, OnOk, IfOk, IfSome};
+ghost use Rattle.std.specs.Prelude.{◌≡◌, ◌<◌, ◌++◌, ◌∷◌, [], length, map, OnOk, IfOk, IfSome};
+ghost use Rattle.count_core.specs.Limits.{number_limit};
 ghost use Rattle.count_core.specs.Clash.{clash, yes_of};
+ghost use Rattle.count_core.specs.Problems.{problem_of};
 ghost use Rattle.propagation.specs.Engines.{HasRoom, OnlyTrailDiffers};
 
 use crate::{Engine, Found, NoMemory};
@@ -103,7 +105,8 @@ fn push_rule(
     lo: u32,
     hi: u32,
 ) -> Result<(), NoMemory>
-    ensures { OnOk result (rules.new.items ≡ rules.old.items ++ record { lits = map yes_of atoms.now; lo = lo; hi = hi } ∷ []) }
+    ensures { OnOk result (rules.new.items
+        ≡ rules.old.items ++ record { lits = map yes_of atoms.now; lo = lo; hi = hi } ∷ []) }
 {
     let mut lits = Vec::new(alloc);
     for atom in atoms {
@@ -133,8 +136,8 @@ fn clash_rules(alloc: Global) -> Result<Vec<CountRule>, NoMemory>
 
 /// An engine of eight atoms and these rules, with room.
 fn engine_of(alloc: Global, rules: Vec<CountRule>) -> Option<Engine>
-    requires few { length rules.items < 2 ^ 32 }
-    ensures problem { IfSome result (λ e. e.problem ≡ record { atoms = 8; rules = rules.items }) }
+    requires few { length rules.items < number_limit }
+    ensures problem { IfSome result (λ e. e.problem ≡ problem_of 8 rules.items) }
     ensures room { IfSome result (λ e. HasRoom e) }
 {
     let problem = Problem::build(alloc, 8, rules).ok()?;

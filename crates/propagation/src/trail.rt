@@ -1,6 +1,6 @@
 ghost use Rattle.std.specs.Prelude.{◌≡◌, ◌≤◌, ◌<◌, ◌^◌, ◌++◌, ◌∷◌, [], false, length, IfOk, OnOk, None};
-ghost use Rattle.count_core.specs.Partials.{is_true, known};
-ghost use Rattle.propagation.specs.Trails.{Entry, IsCauseOf, IsFree, lits_of, values_of, with_entry};
+ghost use Rattle.count_core.specs.PartialAssignments.{is_true, value_at};
+ghost use Rattle.propagation.specs.Trails.{Entry, IsCauseOf, IsFree, lits_of, values_in, with_entry};
 
 use crate::counters::is_true;
 use count_core::{Atom, Hint, Lit, NoMemory};
@@ -23,7 +23,8 @@ impl Model for Trail {
 
     ghost Value = { spec.Trail };
 
-    ghost view = { λ t. record { atoms = t.atoms; entries = map (spec.entry_with t.causes.items) t.lits.items; room = vec_capacity t.lits } };
+    ghost view = { λ t. record { atoms = t.atoms;
+        entries = map (spec.entry_with t.causes.items) t.lits.items; room = vec_capacity t.lits } };
 
     ghost invariant = { λ t. spec.IsTrail t.values.items t.causes.items t.lits.items t.atoms };
 }
@@ -72,7 +73,7 @@ impl Trail {
 
     /// The values, by atom.
     pub(crate) fn values(&self) -> &[Option<bool>]
-        ensures { result.now ≡ values_of self.now.atoms self.now.entries }
+        ensures { result.now ≡ values_in self.now }
     {
         self.values.as_slice()
     }
@@ -80,7 +81,7 @@ impl Trail {
     /// The atom's value, if it has one.
     pub(crate) fn value(&self, atom: Atom) -> Option<bool>
         requires { atom.0 < self.now.atoms }
-        ensures { result ≡ known (values_of self.now.atoms self.now.entries) atom.0 }
+        ensures { result ≡ value_at (values_in self.now) atom.0 }
     {
         self.values[atom.0 as usize]
     }
@@ -88,7 +89,7 @@ impl Trail {
     /// The cause of a literal that is set, if it has one; none for any other literal.
     pub(crate) fn cause_of(&self, lit: Lit) -> Option<Hint>
         ensures on_trail { IsCauseOf self.now.entries lit result }
-        ensures off_trail { is_true (values_of self.now.atoms self.now.entries) lit ≡ false → result ≡ None }
+        ensures off_trail { is_true (values_in self.now) lit ≡ false → result ≡ None }
     {
         if !is_true(&self.values, lit) {
             return None;
@@ -98,7 +99,7 @@ impl Trail {
 
     /// Sets a literal whose atom is unset, where there is room for each atom.
     pub(crate) fn set(&mut self, lit: Lit, cause: Option<Hint>)
-        requires free { IsFree (values_of self.old.atoms self.old.entries) lit }
+        requires free { IsFree (values_in self.old) lit }
         requires room { self.old.atoms ≤ self.old.room }
         ensures entries { self.new.entries ≡ with_entry self.old.entries lit cause }
         ensures atoms { self.new.atoms ≡ self.old.atoms }
@@ -113,7 +114,8 @@ impl Trail {
     /// Takes the last entry away and answers its literal.
     pub(crate) fn pop(&mut self) -> Lit
         requires { 0 < length self.old.entries }
-        ensures last { (e : Entry) × (self.old.entries ≡ self.new.entries ++ e ∷ []) × (e.lit ≡ result) }
+        ensures last { (e : Entry) × (self.old.entries ≡ self.new.entries ++ e ∷ [])
+            × (e.lit ≡ result) }
         ensures atoms { self.new.atoms ≡ self.old.atoms }
         ensures room { self.old.room ≤ self.new.room }
     {

@@ -1,5 +1,5 @@
 use Rattle.std.proofs.Common.{◌≡◌, ◌≤◌, take}
-use Rattle.count_core.specs.Partials.{trues, falses}
+use Rattle.count_core.specs.PartialAssignments.{trues, falses}
 use Rattle.propagation.proofs.counters.counts_of.Given as goal
 
 -- the first literals are counted

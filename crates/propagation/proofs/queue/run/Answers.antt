@@ -32,5 +32,5 @@ loop-head-preserved c =
       grows = grows_trans c.args.store.now c.loop-head.store c.examine-found.new.store c.loop-head.invariant.kept c.loop-head.invariant.grows c.examine-found.ensures.grows;
       quiet = quiet_next c.examine-found.new.store c.loop-head.head c.loop-head.examined quiet c.in_default-found.ensures.quiet;
       head = omega (arith, long, c.loop-head.invariant.head);
-      examined = rw (c.examine-found.ensures.kept.problem, c.examine-found.ensures.kept.clauses) (omega (arith, c.number.ensures));
+      examined = rw (c.examine-found.ensures.kept.problem, c.examine-found.ensures.kept.clauses) (omega (arith, c.constraint_count.ensures));
     }

@@ -1,7 +1,7 @@
 use Rattle.std.proofs.Common.{◌≡◌, ◌+◌, ◌++◌, ◌∷◌, [], length, length-append, ap, arith}
 use Rattle.count_core.specs.Problems.{Problem}
 use Rattle.propagation.proofs.Trails.{front_pop}
-use Rattle.propagation.proofs.Queues.{differs_trans, known_pop, forgotten}
+use Rattle.propagation.proofs.Queues.{differs_trans, quiet_at_pop, forgotten}
 use Rattle.propagation.proofs.queue.unwind.Goals as goal
 
 pub loop-store-preserved : goal.loop-store-preserved
@@ -14,6 +14,6 @@ loop-store-preserved c =
       above = omega (arith, longer, c.len.ensures.len);
       below = omega (arith, longer, c.loop-store.invariant.below);
       kept = differs_trans c.args.store.now c.loop-store.store c.pop.new.self c.loop-store.invariant.kept c.pop.ensures.kept;
-      known = known_pop c.loop-store.store c.pop.new.self e c.loop-store.known c.len-in-loop-store.result c.loop-store.invariant.known c.pop.ensures.kept is c.len-in-loop-store.ensures.len (omega (arith, c.len-in-loop-store.ensures.len, c.len-in-loop-store.ensures.few, c.loop-store.auto.known, c.requires.lengths, ap (λ (p : Problem). p.atoms) c.loop-store.invariant.kept.problem));
-      less = λ i. omega (arith, forgotten c.loop-store.known c.len-in-loop-store.result i, c.loop-store.invariant.less i);
+      quiet_at = quiet_at_pop c.loop-store.store c.pop.new.self e c.loop-store.quiet_at c.len-in-loop-store.result c.loop-store.invariant.quiet_at c.pop.ensures.kept is c.len-in-loop-store.ensures.len (omega (arith, c.len-in-loop-store.ensures.len, c.len-in-loop-store.ensures.few, c.loop-store.auto.quiet_at, c.requires.lengths, ap (λ (p : Problem). p.atoms) c.loop-store.invariant.kept.problem));
+      less = λ i. omega (arith, forgotten c.loop-store.quiet_at c.len-in-loop-store.result i, c.loop-store.invariant.less i);
     }

@@ -1,5 +1,5 @@
 use Rattle.std.proofs.Common.{◌≡◌, ◌≤◌, length, take}
-use Rattle.propagation.specs.Queues.{AreKnown, IsNoGreater}
+use Rattle.propagation.specs.Queues.{AreQuietAt, IsNoGreater}
 use Rattle.propagation.specs.Stores.{OnlyTrailDiffers}
 use Rattle.propagation.proofs.queue.unwind.Given as goal
 
@@ -9,8 +9,8 @@ invariant-loop-store l = record {
   above : l.left ≤ length l.store.entries;
   below : length l.store.entries ≤ length l.fn.store.entries;
   kept : OnlyTrailDiffers l.fn.store l.store;
-  known : AreKnown l.store l.known;
-  less : IsNoGreater l.known l.fn.known;
+  quiet_at : AreQuietAt l.store l.quiet_at;
+  less : IsNoGreater l.quiet_at l.fn.quiet_at;
 }
 
 abbrev pub decreases-loop-store : goal.decreases-loop-store

@@ -1,6 +1,6 @@
 use Rattle.std.proofs.Common.{◌≡◌, ◌+◌, ◌<◌, false, [], length, get_or, drop, ◌∙◌, sym, ap, arith}
 use Rattle.count_core.specs.declared.lit.Lit.{Lit}
-use Rattle.propagation.specs.Constraints.{IsQuiet}
+use Rattle.propagation.specs.Constraints.{IsQuietConstraint}
 use Rattle.propagation.specs.Occurrences.{items_at, no_occurrence}
 use Rattle.propagation.specs.Trails.{Entry}
 use Rattle.propagation.specs.Queues.{affects, AreQuietBut}
@@ -13,14 +13,14 @@ loop-place-init c = record {
   kept = differs_same c.args.store.now;
   grows = grows_same c.args.store.now;
   quiet = c.requires.quiet;
-  left = quiet_start c.args.store.now c.args.head c.args.examined (items_at c.args.store.now.lists c.lit_at-lit.result.atom.0) c.requires.quiet c.requires.head (rw (← c.lit_at-lit.ensures.lit) c.occurrence_number-count.ensures.others);
+  left = quiet_start c.args.store.now c.args.head c.args.examined (items_at c.args.store.now.lists c.lit_at-lit.result.atom.0) c.requires.quiet c.requires.head (rw (← c.lit_at-lit.ensures.lit) c.occurrence_count-count.ensures.others);
 }
 
 pub loop-place-preserved-in_default : goal.loop-place-preserved-in_default
 loop-place-preserved-in_default c =
     let os = items_at c.args.store.now.lists c.lit_at-lit.result.atom.0 in
     let long = grows_longer c.args.store.now c.loop-place.store c.loop-place.invariant.grows in
-    let within : c.loop-place.place < length (items_at c.args.store.now.lists c.lit_at-lit.result.atom.0) = omega (arith, c.occurrence_number-count.ensures.number) in
+    let within : c.loop-place.place < length (items_at c.args.store.now.lists c.lit_at-lit.result.atom.0) = omega (arith, c.occurrence_count-count.ensures.number) in
     let lit : (get_or c.loop-place.store.entries c.args.head no_entry).lit ≡ c.lit_at-lit.result = ap (λ (e : Entry). e.lit) (entry_front c.args.store.now c.loop-place.store c.args.head c.loop-place.invariant.grows c.requires.head) ∙ sym c.lit_at-lit.ensures.lit in
     let passed : affects c.lit_at-lit.result (constraint_in c.loop-place.store (get_or (items_at c.args.store.now.lists c.lit_at-lit.result.atom.0) c.loop-place.place no_occurrence).constraint) ≡ false = rw c.loop-place.invariant.kept.lists at c.in_default.ensures.none in
     record {
@@ -42,9 +42,9 @@ pub loop-place-preserved : goal.loop-place-preserved
 loop-place-preserved c =
     let os = items_at c.args.store.now.lists c.lit_at-lit.result.atom.0 in
     let long = grows_longer c.args.store.now c.loop-place.store c.loop-place.invariant.grows in
-    let within : c.loop-place.place < length (items_at c.args.store.now.lists c.lit_at-lit.result.atom.0) = omega (arith, c.occurrence_number-count.ensures.number) in
+    let within : c.loop-place.place < length (items_at c.args.store.now.lists c.lit_at-lit.result.atom.0) = omega (arith, c.occurrence_count-count.ensures.number) in
     let number : c.in-Some.number ≡ (get_or (items_at c.args.store.now.lists c.lit_at-lit.result.atom.0) c.loop-place.place no_occurrence).constraint = rw c.loop-place.invariant.kept.lists at c.in-Some.ensures.number in
-    let quiet : IsQuiet (values_in c.examine-found.new.store) (constraint_in c.examine-found.new.store (get_or (items_at c.args.store.now.lists c.lit_at-lit.result.atom.0) c.loop-place.place no_occurrence).constraint) = rw number at c.in_default-found.ensures.quiet in
+    let quiet : IsQuietConstraint (values_in c.examine-found.new.store) (constraint_in c.examine-found.new.store (get_or (items_at c.args.store.now.lists c.lit_at-lit.result.atom.0) c.loop-place.place no_occurrence).constraint) = rw number at c.in_default-found.ensures.quiet in
     let left : AreQuietBut c.examine-found.new.store (c.args.head + 1) c.args.examined (drop c.loop-place.place (items_at c.args.store.now.lists c.lit_at-lit.result.atom.0)) = quiet_more c.loop-place.store c.examine-found.new.store (c.args.head + 1) c.args.examined (drop c.loop-place.place os) c.len-length.ensures.caused c.loop-place.invariant.left c.examine-found.ensures.kept c.examine-found.ensures.grows (omega (arith, long, c.requires.head)) in
     record {
       kept = differs_trans c.args.store.now c.loop-place.store c.examine-found.new.store c.loop-place.invariant.kept c.examine-found.ensures.kept;

@@ -1,16 +1,16 @@
 use Rattle.std.proofs.Common.{◌≡◌, ◌≤◌, ◌<◌, ◌∙◌, length, get_or, true, sym, ap, arith}
 use Rattle.std.specs.Arc.{arc_value}
-use Rattle.count_core.specs.Assignments.{signed}
+use Rattle.count_core.specs.Assignments.{under_sign}
 use Rattle.propagation.specs.Occurrences.{items_at, no_occurrence}
 use Rattle.propagation.proofs.Stores.{items_read, clause_unaffected}
 use Rattle.propagation.proofs.store.Store.affected.Goals as goal
 
-pub returns-then-signed-clause-none : goal.returns-then-signed-clause-none
-returns-then-signed-clause-none c =
+pub returns-then-under_sign-clause-none : goal.returns-then-under_sign-clause-none
+returns-then-under_sign-clause-none c =
     let low : c.args.lit.atom.0 < length c.self.inside.lists.items = omega (arith, rw (← c.self.view_is) at c.requires.atom, c.self.invariant.listed.atoms_number) in
     let read : c.as_slice.result.now ≡ items_at c.self.inside.lists.items c.args.lit.atom.0 = items_read c.self.inside.lists.items c.args.lit.atom.0 c.index.result.now c.as_slice.result.now c.as_slice.ensures c.index.ensures low in
     let place = rw (← c.self.view_is) at c.requires.place in
     let rules = rw c.deref.ensures at c.rules.ensures.rules in
     let past : length (arc_value c.self.inside.problem).rules ≤ (get_or c.as_slice.result.now c.args.place no_occurrence).constraint = omega (arith, c.if-number-rules.true, ap length rules) in
-    let sign : signed (get_or c.as_slice.result.now c.args.place no_occurrence).positive c.args.lit.positive ≡ true = sym c.signed.ensures ∙ c.if-signed.true in
+    let sign : under_sign (get_or c.as_slice.result.now c.args.place no_occurrence).positive c.args.lit.positive ≡ true = sym c.under_sign.ensures ∙ c.if-under_sign.true in
     rw (← c.self.view_is) (clause_unaffected (arc_value c.self.inside.problem) c.self.inside.clauses.items c.self.inside.lists.items c.args.lit c.args.place c.self.invariant.shaped c.self.invariant.listed place (rw read at past) (rw read at sign))

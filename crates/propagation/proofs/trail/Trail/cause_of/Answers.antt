@@ -1,5 +1,5 @@
 use Rattle.std.proofs.Common.{◌≡◌, true, ◌∙◌, sym, None, arith}
-use Rattle.count_core.specs.Partials.{is_true}
+use Rattle.count_core.specs.PartialAssignments.{is_true}
 use Rattle.propagation.proofs.Trails.{cause_within, cause_set, cause_unset}
 use Rattle.propagation.proofs.trail.Trail.cause_of.Goals as goal
 

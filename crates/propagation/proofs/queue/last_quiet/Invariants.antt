@@ -1,5 +1,5 @@
 use Rattle.std.proofs.Common.{◌≤◌}
-use Rattle.propagation.proofs.queue.last_known.Given as goal
+use Rattle.propagation.proofs.queue.last_quiet.Given as goal
 
 abbrev pub invariant-loop-place : goal.invariant-loop-place
 invariant-loop-place l = l.place ≤ l.from
