@@ -1,24 +1,24 @@
 -- Why each literal of a trail follows, and what stays true of the parts of an engine.
-use Rattle.std.proofs.Common.{◌≡◌, ℕ, zero, suc, ◌+◌, ◌<◌, ◌≤◌, Bool, true, false, not, List, [], ◌∷◌, ◌++◌, length, length-append, length-take, take, get_or, Option, Some, None, refl, sym, ap, ◌∙◌, arith, slice_get}
-use Rattle.std.specs.Prelude.{slice_set, replicate}
+use Rattle.std.proofs.Common.{◌≡◌, ◌≢◌, cond, ℕ, zero, suc, ◌+◌, ◌<◌, ◌≤◌, Bool, true, false, not, List, [], ◌∷◌, ◌++◌, length, length-append, length-take, take, Option, Some, None, refl, sym, ap, ◌∙◌, arith, slice_get}
+use Rattle.std.specs.Prelude.{slice_set, replicate, ◌==◌}
 use Rattle.std.specs.List.{AllByRecursion as Each}
 use Rattle.std.proofs.lemmas.List.{length-set}
 use Rattle.count_core.specs.declared.lit.Lit.{Lit}
 use Rattle.count_core.specs.declared.hint.Hint.{Hint}
 use Rattle.count_core.specs.declared.hint.Hint.TheVariants.{Rule, Step as Earlier}
 use Rattle.count_core.specs.declared.count_rule.CountRule.{CountRule}
-use Rattle.count_core.specs.Problems.{Problem, are_within, repeats}
+use Rattle.count_core.specs.Problems.{Problem}
 use Rattle.count_core.specs.Assignments.{value_of, under_sign, makes_true, SatisfiesRule, Satisfies, Follows}
-use Rattle.count_core.specs.PartialAssignments.{PartialAssignment, value_at, forced_assignment, Agrees}
-use Rattle.count_core.specs.Steps.{is_clause}
-use Rattle.count_core.proofs.Lists.{each_at, each_push, both_true}
+use Rattle.count_core.specs.PartialAssignments.{PartialAssignment, value_at, is_unset, trues, forced_assignment, Agrees}
+use Rattle.count_core.proofs.Lists.{each_at, each_push}
 use Rattle.count_core.proofs.Agreement.{nothing_agrees, set_agrees, true_met, forced_agrees}
 use Rattle.count_core.proofs.Soundness.{clause_met}
 use Rattle.propagation.specs.declared.clause.Clause.{Clause}
 use Rattle.propagation.specs.Trails.{Entry, with_true, values_of, IsFree}
 use Rattle.propagation.specs.Constraints.{rule_of_clause, IsNamed}
 use Rattle.propagation.specs.Causes.{IsCaused, AreCaused, MeetsAssumed, MeetsAll, AllFollow}
-use Rattle.propagation.specs.Firings.{entries_fired}
+use Rattle.propagation.specs.Firings.{Firing, directed, entries_setting, entries_forced, entries_fired}
+use Rattle.propagation.specs.Engines.{AddsForced}
 use Rattle.propagation.specs.Occurrences.{counter}
 use Rattle.propagation.specs.Stores.{Store, constraints_in, constraint_in, values_in, HasCausedTrail, OnlyTrailDiffers, Grows}
 use Rattle.propagation.specs.Queues.{AreQuiet, AreQuietAt, IsNoGreater, IsEngine}
@@ -52,6 +52,28 @@ module _ (v : List Bool) (problem : Problem) (clauses : List Clause) (met : Sati
 
 pub all_follow : (s : Store) → HasCausedTrail s → Each (λ (c : Clause). Follows s.problem c.lits) s.clauses → AllFollow s.problem s.entries
 all_follow s caused held v met assumed = all_met v s.problem s.clauses met held s.entries (replicate s.problem.atoms None) (nothing_agrees v s.problem.atoms) caused assumed
+
+-- ---- none that a constraint adds was assumed
+
+setting_forced : (h : Hint) (b : Bool) (p : PartialAssignment) (ls : List Lit) → Each (λ (e : Entry). e.cause ≢ None) (entries_setting h b p ls)
+setting_forced h b p [] = tt
+setting_forced h b p (l ∷ ls) = go (is_unset p l) (setting_forced h b (with_true p (directed b l)) ls) (setting_forced h b p ls)
+  where
+    go : (u : Bool) → Each (λ (e : Entry). e.cause ≢ None) (entries_setting h b (with_true p (directed b l)) ls) → Each (λ (e : Entry). e.cause ≢ None) (entries_setting h b p ls)
+        → Each (λ (e : Entry). e.cause ≢ None) (cond u (record { lit = directed b l; cause = Some h } ∷ entries_setting h b (with_true p (directed b l)) ls) (entries_setting h b p ls))
+    go true set rest = ((λ q. cc), set)
+    go false set rest = rest
+
+fired_forced : (fs : List Firing) (p : PartialAssignment) → Each (λ (e : Entry). e.cause ≢ None) (entries_fired p fs)
+fired_forced [] p = tt
+fired_forced (f ∷ fs) p = each_append (entries_forced f.hint p f.rule) (entries_fired (forced_assignment p f.rule.lits f.rule.lo f.rule.hi) fs) (setting_forced f.hint (not (trues p f.rule.lits == f.rule.hi)) p f.rule.lits) (fired_forced fs (forced_assignment p f.rule.lits f.rule.lo f.rule.hi))
+  where
+    each_append : (xs ys : List Entry) → Each (λ (e : Entry). e.cause ≢ None) xs → Each (λ (e : Entry). e.cause ≢ None) ys → Each (λ (e : Entry). e.cause ≢ None) (xs ++ ys)
+    each_append [] ys h k = k
+    each_append (x ∷ xs) ys h k = (h.0, each_append xs ys h.1 k)
+
+pub grows_forced : (old new : Store) → Grows old new → AddsForced old.entries new.entries
+grows_forced old new (fs, h, is) = (entries_fired (values_in old) fs, is, fired_forced fs (values_in old))
 
 -- ---- the parts of an engine
 

@@ -1,26 +1,25 @@
 -- A constraint that forces, literal by literal.
-use Rattle.std.proofs.Common.{◌≡◌, ◌≢◌, ℕ, zero, suc, ◌+◌, ◌-◌, ◌<◌, ◌≤◌, Bool, true, false, not, cond, List, [], ◌∷◌, ◌++◌, length, drop, get_or, Option, Some, None, refl, sym, ap, ◌∙◌, arith, slice_get}
-use Rattle.std.specs.Prelude.{slice_set, ◌==◌, ◌&&◌, ◌||◌, nat_lt, replicate}
+use Rattle.std.proofs.Common.{◌≡◌, ◌≢◌, ℕ, zero, suc, ◌+◌, ◌<◌, Bool, true, false, not, cond, List, [], ◌∷◌, ◌++◌, length, drop, get_or, Option, Some, None, refl, sym, ap, ◌∙◌, arith, slice_get}
+use Rattle.std.specs.Prelude.{slice_set, ◌==◌, ◌&&◌, nat_lt, replicate}
 use Rattle.std.proofs.lemmas.Bool.Decides.{Decides-ltb}
 use Rattle.std.proofs.lemmas.List.{append_assoc, append-nil, drop_more}
 use Rattle.count_core.specs.declared.lit.Lit.{Lit}
 use Rattle.count_core.specs.declared.hint.Hint.{Hint}
 use Rattle.count_core.specs.declared.count_rule.CountRule.{CountRule}
-use Rattle.count_core.specs.Problems.{Problem, mentions, repeats, are_within}
+use Rattle.count_core.specs.Problems.{mentions, repeats, are_within}
 use Rattle.count_core.specs.Assignments.{under_sign}
-use Rattle.count_core.specs.PartialAssignments.{PartialAssignment, value_at, has_sign, is_true, is_unset, trues, falses, unsets, conflicts, forces, forced_assignment, assign, assign_all}
+use Rattle.count_core.specs.PartialAssignments.{PartialAssignment, value_at, has_sign, is_true, is_unset, trues, falses, unsets, forces, assign, assign_all}
 use Rattle.count_core.proofs.Lists.{both_true, count_cons}
 use Rattle.count_core.proofs.Assigning.{none_unset, value_at_same, assign_unset, assign_set, assign_other, assign_all_keeps, length-assign}
 use Rattle.count_core.proofs.RuleEffects.{numbers_add}
 use Rattle.count_core.proofs.Marks.{within_at}
-use Rattle.propagation.specs.declared.clause.Clause.{Clause}
-use Rattle.propagation.specs.Trails.{Entry, with_entry, with_true, extended, values_of, IsFree}
+use Rattle.propagation.specs.Trails.{with_entry, with_true, extended, IsFree}
 use Rattle.propagation.specs.Constraints.{IsNamed, IsQuietConstraint}
-use Rattle.propagation.specs.Causes.{ForcesLit, IsCaused}
-use Rattle.propagation.specs.Firings.{directed, entries_setting, entries_forced, Firing, AreFirings, entries_fired}
+use Rattle.propagation.specs.Causes.{IsCaused}
+use Rattle.propagation.specs.Firings.{directed, entries_setting, entries_forced}
 use Rattle.propagation.specs.Statuses.{IsAtBound}
 use Rattle.propagation.specs.Stores.{Store, IsShaped, IsNumbered, OnlyTrailDiffers, Grows, values_in, constraint_in, hint_in, completed}
-use Rattle.propagation.proofs.Basics.{bit, neither, same_yes, apart_is}
+use Rattle.propagation.proofs.Basics.{bit, neither, apart_is}
 use Rattle.propagation.proofs.Trails.{extended_append, length_values}
 use Rattle.propagation.proofs.Counting.{count_some, trues_after, falses_after, number_once}
 use Rattle.propagation.proofs.Statuses.{idle_set, forces_some, bound_calm, bound_forces, bound_upper, bound_forced}
@@ -134,11 +133,15 @@ module _ (s : Store) (n place : ℕ) (b : Bool) (r : CountRule) (is : r ≡ cons
       go (o ∷ p) (suc a) low e = go p a (omega arith) e
 
   pub lit_caused : (h : Hint) → IsNamed s.problem s.clauses h r → IsCaused s.problem s.clauses (values_in s) (directed b (get_or r.lits place d)) (Some h)
-  lit_caused h named = (r, named, record {
-    calm = bound_calm b (values_in s) r bound;
-    active = bound_forces b (values_in s) r bound some;
-    makes = rw (bound_forced b (values_in s) r bound some shaped.bounds) (directed_true b (assign_all b r.lits (values_in s)) (get_or r.lits place d) (assigned_at b r.lits (values_in s) place d shaped.distinct lt inside unset));
-  })
+  lit_caused h named = (
+    r,
+    named,
+    record {
+      calm = bound_calm b (values_in s) r bound;
+      active = bound_forces b (values_in s) r bound some;
+      makes = rw (bound_forced b (values_in s) r bound some shaped.bounds) (directed_true b (assign_all b r.lits (values_in s)) (get_or r.lits place d) (assigned_at b r.lits (values_in s) place d shaped.distinct lt inside unset));
+    },
+  )
 
   -- it is at its bound still
   still_bound : IsAtBound b (with_true (values_in s) (directed b (get_or r.lits place d))) r
@@ -212,8 +215,7 @@ module _ (old new : Store) (n : ℕ) (b : Bool) (named : IsNumbered old n) (acti
   examined_grows =
       let some = (Decides-ltb 0 (unsets (values_in old) (constraint_in old n).lits)).0 (forces_some (values_in old) (constraint_in old n).lits (constraint_in old n).lo (constraint_in old n).hi active).0 in
       let side = bound_upper b (values_in old) (constraint_in old n) bound some shaped.bounds in
-      let forced_are : entries_forced (hint_in old n) (values_in old) (constraint_in old n) ≡ entries_setting (hint_in old n) b (values_in old) (constraint_in old n).lits = rw side (ap (λ t. entries_setting (hint_in old n) t (values_in old) (constraint_in old n).lits) (twice b)) in
-      (
+      let forced_are : entries_forced (hint_in old n) (values_in old) (constraint_in old n) ≡ entries_setting (hint_in old n) b (values_in old) (constraint_in old n).lits = rw side (ap (λ t. entries_setting (hint_in old n) t (values_in old) (constraint_in old n).lits) (twice b)) in (
         record { hint = hint_in old n; rule = constraint_in old n } ∷ [],
         (named, bound_calm b (values_in old) (constraint_in old n) bound, active, tt),
         entries ∙ ap (λ xs. old.entries ++ xs) (sym (append-nil (entries_forced (hint_in old n) (values_in old) (constraint_in old n)) ∙ forced_are)),

@@ -1,7 +1,6 @@
 -- Literals that are entered at their atoms.
-use Rattle.std.proofs.Common.{◌≡◌, ◌≢◌, ℕ, zero, suc, ◌+◌, ◌<◌, ◌≤◌, ◌^◌, Bool, true, false, cond, List, [], ◌∷◌, ◌++◌, length, length-append, length-take, take, drop, get_or, refl, sym, ap, ◌∙◌, arith}
-use Rattle.std.specs.Prelude.{slice_set, ◌==◌, ◌&&◌, ◌||◌}
-use Rattle.std.specs.List.{AllByRecursion as Each}
+use Rattle.std.proofs.Common.{◌≡◌, ◌≢◌, ℕ, ◌+◌, ◌<◌, ◌≤◌, ◌^◌, Bool, true, false, cond, List, [], ◌∷◌, ◌++◌, length, length-append, length-take, take, drop, get_or, refl, sym, ap, ◌∙◌, arith}
+use Rattle.std.specs.Prelude.{slice_set, ◌==◌, ◌&&◌}
 use Rattle.std.proofs.lemmas.List.{get_or-set_same, get_or-set_other, get_or_default, get_or_past, drop_all, drop_more, take_more}
 use Rattle.count_core.specs.declared.lit.Lit.{Lit}
 use Rattle.count_core.specs.declared.count_rule.CountRule.{CountRule}
@@ -11,7 +10,7 @@ use Rattle.count_core.proofs.Lists.{count_cons, each_map, each_push}
 use Rattle.propagation.specs.declared.occurrence.Occurrence.{Occurrence}
 use Rattle.propagation.specs.Constraints.{nth, no_constraint}
 use Rattle.propagation.specs.Occurrences.{OccurrenceList, no_list, items_at, room_at, HasRoomAt, HaveRoomFor, HaveSameItems, IsEmptyAt, number_listed, number_in, number_if, AreBelow, AreEntered, AreListed, AreShort}
-use Rattle.propagation.proofs.Basics.{bit, neither, same_yes, same_is, apart_is, apart_back, nth_push}
+use Rattle.propagation.proofs.Basics.{bit, neither, same_is, apart_is, apart_back, nth_push}
 
 -- ---- the list of one atom is written
 

@@ -1,6 +1,6 @@
 -- What a constraint does by its numbers.
-use Rattle.std.proofs.Common.{◌≡◌, ◌≢◌, ℕ, ◌-◌, ◌<◌, ◌≤◌, Bool, true, false, not, List, length, refl, arith, ◌⊎◌, inl, inr, ◌∙◌, sym}
-use Rattle.std.specs.Prelude.{◌==◌, ◌&&◌, ◌||◌, nat_lt}
+use Rattle.std.proofs.Common.{◌≡◌, ◌≢◌, ℕ, ◌-◌, ◌<◌, ◌≤◌, Bool, true, false, not, List, length, refl, arith, inl, inr, ◌∙◌, sym}
+use Rattle.std.specs.Prelude.{◌==◌, ◌||◌, nat_lt}
 use Rattle.std.proofs.lemmas.Bool.Decides.{nat_tests}
 use Rattle.count_core.specs.declared.count_rule.CountRule.{CountRule}
 use Rattle.count_core.specs.declared.lit.Lit.{Lit}
@@ -9,9 +9,8 @@ use Rattle.count_core.proofs.Lists.{both_true}
 use Rattle.count_core.proofs.RuleEffects.{numbers_add, conflicts_is, forces_is, forced_is, conflicts_outside, quiet_all_set, quiet_between}
 use Rattle.propagation.specs.declared.status.Status.{Status}
 use Rattle.propagation.specs.declared.status.Status.TheVariants.{Conflicting, Forcing, Quiet}
-use Rattle.propagation.specs.Constraints.{IsQuietConstraint}
 use Rattle.propagation.specs.Statuses.{IsAtBound, HasStatus, HasCounts}
-use Rattle.propagation.proofs.Basics.{false_both, true_either, neither}
+use Rattle.propagation.proofs.Basics.{true_either, neither}
 
 module _ (p : PartialAssignment) (ls : List Lit) (lo hi : ℕ) where
   -- the numbers are within the bounds

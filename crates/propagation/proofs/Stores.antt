@@ -1,10 +1,10 @@
 -- A store whose trail gains an entry or loses one.
-use Rattle.std.proofs.Common.{◌≡◌, ℕ, zero, suc, ◌+◌, ◌-◌, ◌<◌, ◌≤◌, ◌^◌, Bool, true, false, not, List, [], ◌∷◌, ◌++◌, map, length, get_or, Option, Some, None, refl, sym, ap, ◌∙◌, arith, slice_get}
-use Rattle.std.specs.Prelude.{replicate, slice_index_or, nat_lt, ◌==◌, ◌&&◌, ◌||◌}
+use Rattle.std.proofs.Common.{◌≡◌, ℕ, zero, suc, ◌+◌, ◌-◌, ◌<◌, ◌≤◌, Bool, true, false, not, List, [], ◌∷◌, ◌++◌, map, length, get_or, Option, Some, None, refl, sym, ap, ◌∙◌, arith, slice_get}
+use Rattle.std.specs.Prelude.{replicate, nat_lt, ◌==◌, ◌&&◌, ◌||◌}
 use Rattle.std.specs.List.{AllByRecursion as Each}
 use Rattle.std.proofs.lemmas.Bool.Decides.{nat_tests}
-use Rattle.std.proofs.lemmas.List.{get_or_default, get_or-append_right, get_or-map, length-set, length-replicate}
-use Rattle.std.proofs.lemmas.Option.{slice_get_within, get_or_from_slice_get}
+use Rattle.std.proofs.lemmas.List.{get_or_default, get_or-append_right, length-set, length-replicate}
+use Rattle.std.proofs.lemmas.Option.{slice_get_within}
 use Rattle.count_core.specs.declared.lit.Lit.{Lit}
 use Rattle.count_core.specs.declared.count_rule.CountRule.{CountRule}
 use Rattle.count_core.specs.Problems.{Problem, mentions}
@@ -13,12 +13,12 @@ use Rattle.count_core.specs.PartialAssignments.{PartialAssignment, value_at, tru
 use Rattle.propagation.specs.declared.clause.Clause.{Clause}
 use Rattle.propagation.specs.declared.occurrence.Occurrence.{Occurrence}
 use Rattle.propagation.specs.Trails.{Entry, lits_of, with_true, extended, values_of, IsFree}
-use Rattle.propagation.specs.Constraints.{rule_of_clause, constraints_of, constraint_at, nth, no_clause, no_constraint}
+use Rattle.propagation.specs.Constraints.{rule_of_clause, constraints_of, constraint_at, nth, no_constraint}
 use Rattle.propagation.specs.Causes.{IsCaused, AreCaused}
 use Rattle.propagation.specs.Occurrences.{OccurrenceList, no_list, no_occurrence, items_at, number_listed, number_in, counter, AreListed, AreBelow, IsRaised, CanFall, is_listed}
 use Rattle.propagation.specs.Queues.{affects, falsifies}
 use Rattle.propagation.specs.Stores.{IsShaped, IsStore, no_entry}
-use Rattle.propagation.proofs.Basics.{bit, each_nth, neither}
+use Rattle.propagation.proofs.Basics.{bit, each_nth}
 use Rattle.propagation.proofs.Trails.{extended_append, length_values}
 use Rattle.propagation.proofs.Counting.{trues_after, falses_after, mentions_where_none, number_both, listed_none, listed_some, sign_not}
 use Rattle.count_core.proofs.Lists.{count_cons}

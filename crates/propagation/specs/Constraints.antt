@@ -1,6 +1,6 @@
 -- What is propagated: the rules of a problem and the clauses that were added, which are constraints
 -- alike, numbered from 0.
-use Rattle.std.specs.Prelude.{◌≡◌, ℕ, ◌-◌, nat_lt, false, if◌then◌else◌, List, [], ◌∷◌, ◌++◌, length, map, Some, slice_get, slice_index_or}
+use Rattle.std.specs.Prelude.{◌≡◌, ℕ, ◌-◌, nat_lt, if◌then◌else◌, List, [], ◌∷◌, ◌++◌, length, map, Some, slice_get, slice_index_or}
 use Rattle.count_core.specs.declared.lit.Lit.{Lit}
 use Rattle.count_core.specs.declared.hint.Hint.{Hint}
 use Rattle.count_core.specs.declared.hint.Hint.TheVariants.{Rule, Step as Earlier}

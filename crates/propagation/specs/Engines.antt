@@ -1,5 +1,5 @@
 -- What contracts see of an engine, and what its answers mean.
-use Rattle.std.specs.Prelude.{◌≡◌, ℕ, ◌≤◌, true, None, List, ◌++◌, replicate}
+use Rattle.std.specs.Prelude.{◌≡◌, ◌≢◌, ℕ, ◌≤◌, true, None, List, ◌++◌, replicate}
 use Rattle.std.specs.List.{AllByRecursion}
 use Rattle.count_core.specs.declared.hint.Hint.{Hint}
 use Rattle.count_core.specs.declared.count_rule.CountRule.{CountRule}
@@ -51,6 +51,10 @@ IsPropagated old new =
     (fs : List Firing)
     × AreFirings old.problem old.clauses (values_in old) fs
     × (new.entries ≡ old.entries ++ entries_fired (values_in old) fs)
+
+-- Entries were added at the end, none of which was assumed.
+abbrev pub AddsForced : List Entry → List Entry → Type 0
+AddsForced old new = (es : List Entry) × (new ≡ old ++ es) × AllByRecursion (λ (e : Entry). e.cause ≢ None) es
 
 -- The hint names a constraint that conflicts.
 abbrev pub IsConflict : Engine → Hint → Type 0

@@ -4,7 +4,6 @@ pub mod Constraints
 pub mod Causes
 pub mod Firings
 pub mod Engines
-
 -- what its parts cite
 pub mod Views
 pub mod Statuses

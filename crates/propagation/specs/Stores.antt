@@ -1,5 +1,5 @@
 -- Constraints with a trail, and what each call leaves as it is.
-use Rattle.std.specs.Prelude.{◌≡◌, ℕ, ◌≤◌, ◌<◌, Bool, false, true, List, [], ◌++◌, length, drop, Option, None, slice_index_or, replicate}
+use Rattle.std.specs.Prelude.{◌≡◌, ℕ, ◌≤◌, ◌<◌, Bool, false, true, List, ◌++◌, length, drop, Option, None, slice_index_or, replicate}
 use Rattle.std.specs.List.{AllByRecursion}
 use Rattle.count_core.specs.declared.lit.Lit.{Lit}
 use Rattle.count_core.specs.declared.hint.Hint.{Hint}

@@ -5,7 +5,7 @@ ghost use Rattle.count_core.specs.PartialAssignments.{is_true, is_unset};
 ghost use Rattle.count_core.specs.Steps.{is_clause};
 ghost use Rattle.count_core.specs.declared.hint.Hint.{Hint as Cause};
 ghost use Rattle.propagation.specs.Constraints.{with_clause};
-ghost use Rattle.propagation.specs.Engines.{AllQuiet, HasRoom, IsConflict, IsPropagated, IsSound, OnlyTrailDiffers, values_in};
+ghost use Rattle.propagation.specs.Engines.{AddsForced, AllQuiet, HasRoom, IsConflict, IsPropagated, IsSound, OnlyTrailDiffers, values_in};
 ghost use Rattle.propagation.specs.Trails.{IsCauseOf, lits_of, with_entry};
 
 use crate::found::Found;
@@ -37,8 +37,12 @@ impl Model for Engine {
 
     ghost Value = { spec.Engine };
 
-    ghost view = { λ e. record { problem = e.store.problem; clauses = e.store.clauses;
-        entries = e.store.entries; room = e.store.room } };
+    ghost view = { λ e. record {
+      problem = e.store.problem;
+      clauses = e.store.clauses;
+      entries = e.store.entries;
+      room = e.store.room;
+    } };
 
     ghost invariant = { λ e. IsEngine e.store e.head e.examined e.quiet_at.items };
 }
@@ -95,6 +99,7 @@ impl Engine {
         ensures quiet { result ≡ Found.Quiet → AllQuiet self.new }
         ensures conflict { (h : Cause) → result ≡ Found.Conflict h → IsConflict self.new h }
         ensures propagated { IsPropagated self.old self.new }
+        ensures forced { AddsForced self.old.entries self.new.entries }
         ensures sound { IsSound self.new }
         ensures kept { OnlyTrailDiffers self.old self.new }
     {

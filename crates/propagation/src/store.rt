@@ -40,8 +40,13 @@ impl Model for Store {
 
     ghost Value = { spec.Store };
 
-    ghost view = { λ s. record { problem = arc_value s.problem; clauses = s.clauses.items;
-        entries = s.trail.entries; room = s.trail.room; lists = s.lists.items } };
+    ghost view = { λ s. record {
+      problem = arc_value s.problem;
+      clauses = s.clauses.items;
+      entries = s.trail.entries;
+      room = s.trail.room;
+      lists = s.lists.items;
+    } };
 
     ghost invariant = { λ s. spec.IsStore (arc_value s.problem) s.clauses.items s.trail.atoms
         s.trail.entries s.trues.items s.falses.items s.lists.items };

@@ -15,11 +15,7 @@ use std::alloc::Global;
 type Sign = (u32, bool);
 
 /// What is assumed, what propagation then finds, and the trail with its causes.
-type Case = (
-    &'static [Sign],
-    Found,
-    &'static [(Sign, Option<Hint>)],
-);
+type Case = (&'static [Sign], Found, &'static [(Sign, Option<Hint>)]);
 
 const CONFLICT: Found = Found::Conflict {
     cause: Hint::Rule(2),

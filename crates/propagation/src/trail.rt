@@ -23,8 +23,11 @@ impl Model for Trail {
 
     ghost Value = { spec.Trail };
 
-    ghost view = { λ t. record { atoms = t.atoms;
-        entries = map (spec.entry_with t.causes.items) t.lits.items; room = vec_capacity t.lits } };
+    ghost view = { λ t. record {
+      atoms = t.atoms;
+      entries = map (spec.entry_with t.causes.items) t.lits.items;
+      room = vec_capacity t.lits;
+    } };
 
     ghost invariant = { λ t. spec.IsTrail t.values.items t.causes.items t.lits.items t.atoms };
 }

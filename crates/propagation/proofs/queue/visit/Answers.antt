@@ -1,5 +1,4 @@
 use Rattle.std.proofs.Common.{◌≡◌, ◌+◌, ◌<◌, false, [], length, get_or, drop, ◌∙◌, sym, ap, arith}
-use Rattle.count_core.specs.declared.lit.Lit.{Lit}
 use Rattle.propagation.specs.Constraints.{IsQuietConstraint}
 use Rattle.propagation.specs.Occurrences.{items_at, no_occurrence}
 use Rattle.propagation.specs.Trails.{Entry}

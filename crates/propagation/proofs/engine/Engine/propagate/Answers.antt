@@ -1,5 +1,5 @@
 use Rattle.propagation.proofs.Queues.{all_quiet}
-use Rattle.propagation.proofs.Engines.{engine_run, engine_note, all_follow}
+use Rattle.propagation.proofs.Engines.{engine_run, engine_note, all_follow, grows_forced}
 use Rattle.propagation.proofs.engine.Engine.propagate.Goals as goal
 
 pub invariant_of-self : goal.invariant_of-self
@@ -18,3 +18,9 @@ returns-in-None-clause-quiet c = λ e. all_quiet c.run-found.new.store c.run-fou
 
 pub returns-in-None-clause-sound : goal.returns-in-None-clause-sound
 returns-in-None-clause-sound c = record { caused = c.len-length.ensures.caused; follow = all_follow c.run-found.new.store c.len-length.ensures.caused (rw (c.run-found.ensures.kept.problem, c.run-found.ensures.kept.clauses) c.self.invariant.follow) }
+
+pub returns-in-Some-clause-forced : goal.returns-in-Some-clause-forced
+returns-in-Some-clause-forced c = rw (← c.self.view_is) (grows_forced c.self.inside.store c.run-found.new.store c.run-found.ensures.grows)
+
+pub returns-in-None-clause-forced : goal.returns-in-None-clause-forced
+returns-in-None-clause-forced c = rw (← c.self.view_is) (grows_forced c.self.inside.store c.run-found.new.store c.run-found.ensures.grows)

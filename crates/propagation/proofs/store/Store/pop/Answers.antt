@@ -1,4 +1,4 @@
-use Rattle.std.proofs.Common.{◌≡◌, ◌<◌, length, not, ◌∙◌, ap, sym, arith}
+use Rattle.std.proofs.Common.{◌≡◌, length, not, ◌∙◌, ap, arith}
 use Rattle.std.specs.Arc.{arc_value}
 use Rattle.propagation.specs.Occurrences.{items_at, IsRaised}
 use Rattle.propagation.proofs.Basics.{returned}
