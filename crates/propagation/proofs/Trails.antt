@@ -9,7 +9,7 @@ use Rattle.count_core.specs.declared.hint.Hint.{Hint}
 use Rattle.count_core.specs.PartialAssignments.{PartialAssignment, value_at, has_sign, is_true}
 use Rattle.count_core.specs.Trails.{unset_number}
 use Rattle.count_core.proofs.Trails.{unset_number_set, unset_number_replicate}
-use Rattle.propagation.specs.Trails.{Entry, lits_of, with_entry, with_true, extended, values_of, IsFree, AreFree, entry_with, IsTrail, IsCauseOf}
+use Rattle.propagation.specs.Trails.{SetsAsMany, Entry, lits_of, with_entry, with_true, extended, values_of, IsFree, AreFree, entry_with, IsTrail, IsCauseOf}
 use Rattle.propagation.proofs.Basics.{read_same, read_other}
 
 -- a write that is undone
@@ -107,6 +107,9 @@ module _ (values : PartialAssignment) (causes : List (Option Hint)) (ls : List L
 
   pub trail_values : length values ≡ atoms
   trail_values = ap length trail.values_are ∙ length_values atoms (map (entry_with causes) ls)
+
+  pub trail_sets : SetsAsMany (values_of atoms (map (entry_with causes) ls)) (map (entry_with causes) ls)
+  trail_sets = omega (arith, unset_left (replicate atoms None) (map (entry_with causes) ls) trail.free, unset_number_replicate atoms, length_values atoms (map (entry_with causes) ls))
 
   pub trail_known : (a : ℕ) (b : Option Bool) → a < atoms → slice_index_or values a b ≡ value_at (values_of atoms (map (entry_with causes) ls)) a
   trail_known a b lt = rw (← trail.values_are) (go values a (omega (arith, trail_values)))

@@ -1,9 +1,10 @@
 -- A trail: the literals that are set, in order, each with its cause; and the partial assignment that
 -- it gives.
-use Rattle.std.specs.Prelude.{◌≡◌, ℕ, ◌<◌, ◌^◌, List, [], ◌∷◌, ◌++◌, length, map, Option, Some, None, slice_set, slice_get, slice_index_or, replicate}
+use Rattle.std.specs.Prelude.{◌≡◌, ℕ, ◌+◌, ◌<◌, ◌^◌, List, [], ◌∷◌, ◌++◌, length, map, Option, Some, None, slice_set, slice_get, slice_index_or, replicate}
 use Rattle.count_core.specs.declared.lit.Lit.{Lit}
 use Rattle.count_core.specs.declared.hint.Hint.{Hint}
 use Rattle.count_core.specs.PartialAssignments.{PartialAssignment}
+use Rattle.count_core.specs.Trails.{unset_number}
 
 -- A literal that is set true, with what forced it, or none where it was assumed.
 pub record Entry : Type 0 where
@@ -39,6 +40,10 @@ extended p (e ∷ es) = extended (with_true p e.lit) es
 -- the assignment that entries over so many atoms give
 abbrev pub values_of : ℕ → List Entry → PartialAssignment
 values_of atoms es = extended (replicate atoms None) es
+
+-- As many atoms are set as there are entries, and the others are unset.
+abbrev pub SetsAsMany : PartialAssignment → List Entry → Type 0
+SetsAsMany p es = length es + unset_number p ≡ length p
 
 abbrev pub values_in : Trail → PartialAssignment
 values_in t = values_of t.atoms t.entries

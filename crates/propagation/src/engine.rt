@@ -6,7 +6,7 @@ ghost use Rattle.count_core.specs.Steps.{is_clause};
 ghost use Rattle.count_core.specs.declared.hint.Hint.{Hint as Cause};
 ghost use Rattle.propagation.specs.Constraints.{with_clause};
 ghost use Rattle.propagation.specs.Engines.{AddsForced, AllQuiet, HasRoom, IsConflict, IsPropagated, IsSound, OnlyTrailDiffers, values_in};
-ghost use Rattle.propagation.specs.Trails.{IsCauseOf, lits_of, with_entry};
+ghost use Rattle.propagation.specs.Trails.{IsCauseOf, SetsAsMany, lits_of, with_entry};
 
 use crate::found::Found;
 use crate::mark::Mark;
@@ -130,9 +130,11 @@ impl Engine {
         self.store.lits()
     }
 
-    /// The values by atom, from 0; none where an atom is unset.
+    /// The values by atom, from 0, with none where an atom is unset. As many are set as the trail has
+    /// literals.
     pub fn values(&self) -> &[Option<bool>]
-        ensures { result.now ≡ values_in self.now }
+        ensures values { result.now ≡ values_in self.now }
+        ensures number { SetsAsMany (values_in self.now) self.now.entries }
     {
         self.store.values()
     }

@@ -7,7 +7,7 @@ ghost use Rattle.propagation.specs.Occurrences.{AreListed, AreShort, items_at};
 ghost use Rattle.propagation.specs.Queues.{affects, HasNone};
 ghost use Rattle.propagation.specs.Statuses.{HasStatus};
 ghost use Rattle.propagation.specs.Stores.{HasRoom, HasCausedTrail, IsCausedIn, IsShaped, OnlyTrailDiffers, constraint_in, constraint_listed, constraints_in, entry_in, hint_in, listed_at, values_in};
-ghost use Rattle.propagation.specs.Trails.{Entry, IsCauseOf, IsFree, lits_of, with_entry};
+ghost use Rattle.propagation.specs.Trails.{Entry, IsCauseOf, IsFree, SetsAsMany, lits_of, with_entry};
 ghost use Rattle.propagation.specs.Views.{rule_in};
 
 use crate::clause::Clause;
@@ -149,7 +149,8 @@ impl Store {
 
     /// The values, by atom.
     pub(crate) fn values(&self) -> &[Option<bool>]
-        ensures { result.now ≡ values_in self.now }
+        ensures values { result.now ≡ values_in self.now }
+        ensures number { SetsAsMany (values_in self.now) self.now.entries }
     {
         self.trail.values()
     }

@@ -1,6 +1,6 @@
 ghost use Rattle.std.specs.Prelude.{◌≡◌, ◌≤◌, ◌<◌, ◌^◌, ◌++◌, ◌∷◌, [], false, length, IfOk, OnOk, None};
 ghost use Rattle.count_core.specs.PartialAssignments.{is_true, value_at};
-ghost use Rattle.propagation.specs.Trails.{Entry, IsCauseOf, IsFree, lits_of, values_in, with_entry};
+ghost use Rattle.propagation.specs.Trails.{Entry, IsCauseOf, IsFree, SetsAsMany, lits_of, values_in, with_entry};
 
 use crate::counters::is_true;
 use count_core::{Atom, Hint, Lit, NoMemory};
@@ -76,7 +76,8 @@ impl Trail {
 
     /// The values, by atom.
     pub(crate) fn values(&self) -> &[Option<bool>]
-        ensures { result.now ≡ values_in self.now }
+        ensures values { result.now ≡ values_in self.now }
+        ensures number { SetsAsMany (values_in self.now) self.now.entries }
     {
         self.values.as_slice()
     }

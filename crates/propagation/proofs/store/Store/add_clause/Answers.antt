@@ -31,8 +31,8 @@ invariant_of-self-2 c =
     let number3 : c.in-Ok.number ≡ length c.self.inside.trues.items = search rules in
     let few : length c.args.clause.now < 9223372036854775808 = omega arith in
     let within = rw (← c.self.view_is) at c.requires.within in
-    let ts = rw c.values.ensures at c.counts_of-trues.ensures.trues in
-    let fs = rw c.values.ensures at c.counts_of-trues.ensures.falses in
+    let ts = rw c.values.ensures.values at c.counts_of-trues.ensures.trues in
+    let fs = rw c.values.ensures.values at c.counts_of-trues.ensures.falses in
     rw (back, returned c.reserve_for.new.lists c.enter.new.lists c.self.inside.lists.len number2 len2)
     (store_add (arc_value c.self.inside.problem) c.self.inside.clauses.items c.self.inside.trail.atoms c.self.inside.trail.entries c.self.inside.trues.items c.self.inside.falses.items c.self.inside.lists.items c.self.invariant
     clause c.counts_of-trues.result.trues c.counts_of-trues.result.falses c.in-Ok.number c.push.new.self.items c.push-2.new.self.items c.push-3.new.self.items c.reserve_for.new.lists c.enter.new.lists
