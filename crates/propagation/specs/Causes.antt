@@ -20,17 +20,20 @@ pub record ForcesLit (p : PartialAssignment) (r : CountRule) (l : Lit) : Type 0 
 -- With p set, the literal was assumed, or a constraint forces it that its cause names.
 abbrev pub IsCaused : Problem → List Clause → PartialAssignment → Lit → Option Hint → Type 0
 IsCaused problem clauses p l None = Unit {0}
-IsCaused problem clauses p l (Some h) = (r : CountRule) × IsNamed problem clauses h r × ForcesLit p r l
+IsCaused problem clauses p l (Some h) =
+    (r : CountRule) × IsNamed problem clauses h r × ForcesLit p r l
 
 -- Each literal is free when its turn comes, and caused by what is set before it.
 abbrev pub AreCaused : Problem → List Clause → PartialAssignment → List Entry → Type 0
 AreCaused problem clauses p [] = Unit {0}
 AreCaused problem clauses p (e ∷ es) =
-    IsFree p e.lit × IsCaused problem clauses p e.lit e.cause × AreCaused problem clauses (with_true p e.lit) es
+    IsFree p e.lit × IsCaused problem clauses p e.lit e.cause
+    × AreCaused problem clauses (with_true p e.lit) es
 
 -- The assignment makes each assumed literal true.
 abbrev pub MeetsAssumed : List Bool → List Entry → Type 0
-MeetsAssumed values es = AllByRecursion (λ (e : Entry). e.cause ≡ None → makes_true values e.lit ≡ true) es
+MeetsAssumed values es =
+    AllByRecursion (λ (e : Entry). e.cause ≡ None → makes_true values e.lit ≡ true) es
 
 -- The assignment makes each literal true.
 abbrev pub MeetsAll : List Bool → List Entry → Type 0
@@ -39,4 +42,5 @@ MeetsAll values es = AllByRecursion (λ (e : Entry). makes_true values e.lit ≡
 -- Each literal is true in each assignment that satisfies the problem and makes those true that were
 -- assumed.
 abbrev pub AllFollow : Problem → List Entry → Type 0
-AllFollow problem es = (values : List Bool) → Satisfies values problem → MeetsAssumed values es → MeetsAll values es
+AllFollow problem es =
+    (values : List Bool) → Satisfies values problem → MeetsAssumed values es → MeetsAll values es

@@ -55,4 +55,6 @@ step_at clauses k = (slice_index_or clauses k no_clause).step
 -- the hint that names the constraint with this number
 abbrev pub hint_at : Problem → List Clause → ℕ → Hint
 hint_at problem clauses n =
-    if nat_lt n (length problem.rules) then Rule n else Earlier (step_at clauses (n - length problem.rules))
+    if nat_lt n (length problem.rules)
+    then Rule n
+    else Earlier (step_at clauses (n - length problem.rules))

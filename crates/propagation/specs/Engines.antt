@@ -45,7 +45,7 @@ pub record IsSound (e : Engine) : Type 0 where
   pub caused : AreCaused e.problem e.clauses (replicate e.problem.atoms None) e.entries
   pub follow : AllFollow e.problem e.entries
 
--- The trail grew by the entries of constraints that forced one after the other, and by nothing else.
+-- The trail grew by the entries of constraints that forced one after the other, and by no other.
 abbrev pub IsPropagated : Engine → Engine → Type 0
 IsPropagated old new =
     (fs : List Firing)
@@ -54,9 +54,11 @@ IsPropagated old new =
 
 -- Entries were added at the end, none of which was assumed.
 abbrev pub AddsForced : List Entry → List Entry → Type 0
-AddsForced old new = (es : List Entry) × (new ≡ old ++ es) × AllByRecursion (λ (e : Entry). e.cause ≢ None) es
+AddsForced old new =
+    (es : List Entry) × (new ≡ old ++ es) × AllByRecursion (λ (e : Entry). e.cause ≢ None) es
 
 -- The hint names a constraint that conflicts.
 abbrev pub IsConflict : Engine → Hint → Type 0
 IsConflict e h =
-    (r : CountRule) × IsNamed e.problem e.clauses h r × (conflicts (values_in e) r.lits r.lo r.hi ≡ true)
+    (r : CountRule) × IsNamed e.problem e.clauses h r
+    × (conflicts (values_in e) r.lits r.lo r.hi ≡ true)

@@ -23,8 +23,8 @@ entries_setting h b p (l ∷ ls) =
     then record { lit = directed b l; cause = Some h } ∷ entries_setting h b (with_true p (directed b l)) ls
     else entries_setting h b p ls
 
--- the entries that the constraint adds when it forces: at its upper bound its unset literals are made
--- false, else true
+-- the entries that the constraint adds when it forces: at its upper bound its unset literals are
+-- made false, else true
 abbrev pub entries_forced : Hint → PartialAssignment → CountRule → List Entry
 entries_forced h p r = entries_setting h (not (trues p r.lits == r.hi)) p r.lits
 
@@ -51,4 +51,5 @@ after_firings p (f ∷ fs) = after_firings (forced_assignment p f.rule.lits f.ru
 abbrev pub entries_fired : PartialAssignment → List Firing → List Entry
 entries_fired p [] = []
 entries_fired p (f ∷ fs) =
-    entries_forced f.hint p f.rule ++ entries_fired (forced_assignment p f.rule.lits f.rule.lo f.rule.hi) fs
+    entries_forced f.hint p f.rule
+    ++ entries_fired (forced_assignment p f.rule.lits f.rule.lo f.rule.hi) fs

@@ -82,7 +82,8 @@ HaveRoomFor lists ls = AllByRecursion (HasRoomAt lists) ls
 
 -- The literals were entered as those of constraint `number`.
 pub record AreEntered (old new : List OccurrenceList) (number : ℕ) (ls : List Lit) : Type 0 where
-  pub numbers : (b : Bool) (n a : ℕ) → number_listed b n (items_at new a) ≡ number_listed b n (items_at old a) + number_if (number == n) b a ls
+  pub numbers : (b : Bool) (n a : ℕ) → number_listed b n (items_at new a)
+      ≡ number_listed b n (items_at old a) + number_if (number == n) b a ls
   pub below : (m a : ℕ) → number < m → AreBelow m (items_at old a) → AreBelow m (items_at new a)
 
 -- For each of so many atoms the literals of all constraints over it are listed.

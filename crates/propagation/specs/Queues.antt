@@ -29,8 +29,8 @@ is_affected es r = list_any (λ (e : Entry). affects e.lit r) es
 -- may affect.
 abbrev pub AreQuietBut : Store → ℕ → ℕ → List Occurrence → Type 0
 AreQuietBut s head examined os =
-    (n : ℕ) → n < examined → is_affected (drop head s.entries) (constraint_in s n) ≡ false → is_listed n os ≡ false
-    → IsQuietIn s n
+    (n : ℕ) → n < examined → is_affected (drop head s.entries) (constraint_in s n) ≡ false
+    → is_listed n os ≡ false → IsQuietIn s n
 
 -- Each of the first constraints is quiet, but for those that an entry from `head` on may affect.
 abbrev pub AreQuiet : Store → ℕ → ℕ → Type 0
@@ -38,13 +38,15 @@ AreQuiet s head examined = AreQuietBut s head examined []
 
 -- A constraint that is not listed at the atom has no literal over it.
 abbrev pub HasNone : Store → ℕ → ℕ → Type 0
-HasNone s a n = is_listed n (items_at s.lists a) ≡ false → mentions a (constraint_in s n).lits ≡ false
+HasNone s a n =
+    is_listed n (items_at s.lists a) ≡ false → mentions a (constraint_in s n).lits ≡ false
 
 -- At each length of the trail so many of the first constraints are quiet.
 abbrev pub AreQuietAt : Store → List ℕ → Type 0
 AreQuietAt s quiet_at =
     (i n : ℕ) → n < counter quiet_at i
-    → (i ≤ length s.entries) × IsQuietConstraint (values_of s.problem.atoms (take i s.entries)) (constraint_in s n)
+    → (i ≤ length s.entries)
+    × IsQuietConstraint (values_of s.problem.atoms (take i s.entries)) (constraint_in s n)
 
 abbrev pub IsNoGreater : List ℕ → List ℕ → Type 0
 IsNoGreater new old = (i : ℕ) → counter new i ≤ counter old i

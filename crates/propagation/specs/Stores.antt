@@ -64,7 +64,8 @@ IsCausedIn s l c = IsCaused s.problem s.clauses (values_in s) l c
 abbrev pub IsQuietIn : Store → ℕ → Type 0
 IsQuietIn s n = IsQuietConstraint (values_in s) (constraint_in s n)
 
--- The constraint with this number does not conflict, and is at its lower bound (true) or its upper one.
+-- The constraint with this number does not conflict, and is at its lower bound (true) or at its upper
+-- one (false).
 abbrev pub IsAtBoundIn : Store → ℕ → Bool → Type 0
 IsAtBoundIn s n b = IsAtBound b (values_in s) (constraint_in s n)
 
@@ -85,11 +86,13 @@ Grows old new =
 -- The hint names a constraint that conflicts.
 abbrev pub IsConflict : Store → Hint → Type 0
 IsConflict s h =
-    (r : CountRule) × IsNamed s.problem s.clauses h r × (conflicts (values_in s) r.lits r.lo r.hi ≡ true)
+    (r : CountRule) × IsNamed s.problem s.clauses h r
+    × (conflicts (values_in s) r.lits r.lo r.hi ≡ true)
 
 -- the entries once the literals of constraint n from place k on are set, each true or each false
 abbrev pub completed : Store → ℕ → Bool → ℕ → List Entry
-completed s n b k = s.entries ++ entries_setting (hint_in s n) b (values_in s) (drop k (constraint_in s n).lits)
+completed s n b k =
+    s.entries ++ entries_setting (hint_in s n) b (values_in s) (drop k (constraint_in s n).lits)
 
 -- The hint of the constraint with this number names it.
 abbrev pub IsNumbered : Store → ℕ → Type 0
@@ -97,7 +100,8 @@ IsNumbered s n = IsNamed s.problem s.clauses (hint_in s n) (constraint_in s n)
 
 -- ---- what holds of the parts
 
--- A constraint that can be propagated. A clause without literals has the lower bound 1 and the upper 0.
+-- A constraint that can be propagated. A clause without literals has the lower bound 1 and the upper
+-- bound 0.
 pub record IsShaped (atoms : ℕ) (r : CountRule) : Type 0 where
   pub in_range : are_within atoms r.lits ≡ true
   pub distinct : repeats r.lits ≡ false

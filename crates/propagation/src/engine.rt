@@ -20,9 +20,9 @@ use std::marker::Model;
 /// see a record of the problem, the clauses that were added, the entries of the trail, and for how
 /// many entries there is room.
 ///
-/// `head` is the first entry whose occurrences may not all have been examined, and `examined` is how
-/// many of the first constraints were examined at all. `quiet_at` has, for each length of the trail,
-/// how many of the first constraints are known to be quiet there, or 0.
+/// `head` is the first entry whose occurrences may not all have been examined, and `examined` is
+/// how many of the first constraints were examined at all. `quiet_at` has, for each length of the
+/// trail, how many of the first constraints are known to be quiet there, or 0.
 #[derive(Drop)]
 pub struct Engine {
     store: Store,
@@ -130,8 +130,8 @@ impl Engine {
         self.store.lits()
     }
 
-    /// The values by atom, from 0, with none where an atom is unset. As many are set as the trail has
-    /// literals.
+    /// The values by atom, from 0, with none where an atom is unset. As many are set as the trail
+    /// has literals.
     pub fn values(&self) -> &[Option<bool>]
         ensures values { result.now ≡ values_in self.now }
         ensures number { SetsAsMany (values_in self.now) self.now.entries }
@@ -167,7 +167,7 @@ impl Engine {
     }
 
     /// Adds a clause with the number of its step, by which causes name it. It follows from the
-    /// problem, and its literals are over different atoms of it. After want of memory nothing is
+    /// problem, and its literals are over different atoms of it. Where memory is out, nothing is
     /// added.
     pub fn add_clause(&mut self, alloc: Global, clause: &[Lit], step: u32) -> Result<(), NoMemory>
         requires clause { is_clause self.old.problem clause.now ≡ true }

@@ -2,11 +2,12 @@
 //!
 //! An `Engine` keeps a trail: the literals that are set, in order, each with the rule or clause
 //! that forced it. For each rule and clause it counts the true and the false literals, so that to
-//! set a literal costs the occurrences of its atom, and `propagate` examines only what a new literal
-//! may have changed. What a rule is, and when it conflicts or forces, stands in `count_core`.
+//! set a literal costs the occurrences of its atom, and `propagate` examines only what a new
+//! literal may have changed. What a rule is, and when it conflicts or forces, stands in
+//! `count_core`.
 //!
-//! Only `Engine::new`, `reserve` and `add_clause` may want memory. All else takes no memory, and is
-//! to be called once `reserve` has made room.
+//! A call that is given an allocator may run out of memory, and reports it; every other call takes
+//! no memory. `assume` and `propagate` are for an engine in which `reserve` has made room.
 #![tactic(auto)]
 
 mod clause;

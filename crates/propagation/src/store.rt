@@ -83,7 +83,7 @@ impl Store {
         self.trail.reserve()
     }
 
-    /// Adds a clause with the number of its step; after want of memory nothing is added.
+    /// Adds a clause with the number of its step. Where memory is out, nothing is added.
     pub(crate) fn add_clause(
         &mut self,
         alloc: Global,
@@ -189,7 +189,7 @@ impl Store {
         self.lists[atom.0 as usize].as_slice().len()
     }
 
-    /// The number of the constraint at this place of the occurrences of the set literal's atom. None
+    /// The number of the constraint at this place of the occurrences of a set literal's atom. None
     /// where it is a clause in which the literal is true, which need not be examined.
     pub(crate) fn affected(&self, lit: Lit, place: usize) -> Option<usize>
         requires atom { lit.atom.0 < self.now.problem.atoms }
