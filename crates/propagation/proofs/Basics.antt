@@ -62,6 +62,10 @@ each_nth P [] n d h lt = absurd (omega arith)
 each_nth P (x ∷ xs) zero d h lt = h.0
 each_nth P (x ∷ xs) (suc n) d h lt = each_nth P xs n d h.1 (omega arith)
 
+pub each_append : {X : Type 0} (P : X → Type 0) (xs ys : List X) → Each P xs → Each P ys → Each P (xs ++ ys)
+each_append P [] ys h k = k
+each_append P (x ∷ xs) ys h k = (h.0, each_append P xs ys h.1 k)
+
 pub drop_push : {X : Type 0} (xs ys : List X) (i : ℕ) → i ≤ length xs → drop i (xs ++ ys) ≡ drop i xs ++ ys
 drop_push [] ys zero le = refl
 drop_push [] ys (suc i) le = absurd (omega arith)

@@ -1,5 +1,5 @@
 -- A store as it is made, and one to which a clause is added.
-use Rattle.std.proofs.Common.{◌≡◌, ℕ, zero, suc, ◌<◌, ◌^◌, Bool, true, false, not, cond, List, [], ◌∷◌, ◌++◌, map, length, length-append, Option, Some, None, refl, sym, ap, ◌∙◌, arith, slice_get}
+use Rattle.std.proofs.Common.{◌≡◌, ℕ, zero, suc, ◌≤◌, ◌<◌, ◌^◌, Bool, true, false, not, cond, List, [], ◌∷◌, ◌++◌, map, length, length-append, Option, Some, None, refl, sym, ap, ◌∙◌, arith, slice_get}
 use Rattle.std.specs.Prelude.{◌==◌, replicate}
 use Rattle.std.proofs.lemmas.List.{append-nil, append_assoc, length-replicate, get_or_append_left}
 use Rattle.count_core.specs.declared.lit.Lit.{Lit}
@@ -14,9 +14,10 @@ use Rattle.propagation.specs.declared.clause.Clause.{Clause}
 use Rattle.propagation.specs.Trails.{Entry, with_true, values_of}
 use Rattle.propagation.specs.Constraints.{rule_of_clause, constraints_of, constraint_at, nth, no_constraint, IsNamed}
 use Rattle.propagation.specs.Causes.{IsCaused, AreCaused}
-use Rattle.propagation.specs.Occurrences.{OccurrenceList, HaveSameItems, counter, AreEntered, AreListed, AreShort}
+use Rattle.propagation.specs.Occurrences.{OccurrenceList, HaveSameItems, counter, AreEntered, AreListed, AreShort, AreLengths}
 use Rattle.propagation.specs.Stores.{IsShaped, AreCounted, IsStore}
 use Rattle.propagation.proofs.Basics.{bit, nth_push}
+use Rattle.propagation.proofs.Splits.{split_new, split_same, split_enter}
 use Rattle.propagation.proofs.Lists.{listed_push, short_push}
 
 -- ---- a store as it is made
@@ -41,14 +42,14 @@ none_false : (n : ℕ) (ls : List Lit) → falses (replicate n None) ls ≡ 0
 none_false n [] = refl
 none_false n (l ∷ ls) = (let e = ap bit (sign_nowhere (not l.positive) n l.atom.0) in omega (arith, count_cons (is_false (replicate n None)) l ls, none_false n ls, e))
 
-pub store_new : (problem : Problem) (atoms n : ℕ) (clauses : List Clause) (es : List Entry) (ts fs : List ℕ) (lists : List OccurrenceList) → clauses ≡ [] → es ≡ [] → atoms ≡ problem.atoms → n ≡ length problem.rules → ts ≡ replicate n 0 → fs ≡ replicate n 0
-    → IsWellFormed problem → AreListed problem.atoms problem.rules lists → AreShort problem.rules → IsStore problem clauses atoms es ts fs lists
-store_new problem atoms n clauses es ts fs lists no_clauses no_entries same number is_t is_f formed listed short = rw (no_clauses, no_entries) made
+pub store_new : (problem : Problem) (atoms n : ℕ) (clauses : List Clause) (es : List Entry) (ts fs : List ℕ) (lists : List OccurrenceList) (splits : List ℕ) → clauses ≡ [] → es ≡ [] → atoms ≡ problem.atoms → n ≡ length problem.rules → ts ≡ replicate n 0 → fs ≡ replicate n 0
+    → IsWellFormed problem → AreListed problem.atoms problem.rules lists → AreShort problem.rules → AreLengths splits lists → IsStore problem clauses atoms es ts fs lists splits
+store_new problem atoms n clauses es ts fs lists splits no_clauses no_entries same number is_t is_f formed listed short lengths = rw (no_clauses, no_entries) made
   where
     all : constraints_of problem [] ≡ problem.rules
     all = append-nil problem.rules
 
-    made : IsStore problem [] atoms [] ts fs lists
+    made : IsStore problem [] atoms [] ts fs lists splits
     made = record {
       atoms_are = same;
       shaped = rw all (each_map (IsWellFormedRule problem.atoms) (IsShaped problem.atoms) problem.rules (λ r h. record { in_range = h.in_range; distinct = h.distinct; bounds = λ lt. h.bounds }) formed.rules);
@@ -60,6 +61,7 @@ store_new problem atoms n clauses es ts fs lists no_clauses no_entries same numb
         falses_number = rw (is_f, all) ((let z : ℕ = 0 in length-replicate n z) ∙ number);
       };
       listed = rw all listed;
+      split = split_new problem.atoms problem.rules splits lists listed lengths;
       caused = tt;
     }
 
@@ -111,35 +113,40 @@ module _ (p : PartialAssignment) (rules : List CountRule) (r : CountRule) where
     falses_number = omega (arith, h.falses_number, length-append fs (f ∷ []), length-append rules (r ∷ []));
   }
 
-module _ (problem : Problem) (clauses : List Clause) (atoms : ℕ) (es : List Entry) (ts fs : List ℕ) (lists : List OccurrenceList) (h : IsStore problem clauses atoms es ts fs lists) where
+module _ (problem : Problem) (clauses : List Clause) (atoms : ℕ) (es : List Entry) (ts fs : List ℕ) (lists : List OccurrenceList) (splits : List ℕ) (h : IsStore problem clauses atoms es ts fs lists splits) where
   -- there is more room alone
-  pub store_room : (cs : List Clause) (us gs : List ℕ) (new : List OccurrenceList) → cs ≡ clauses → us ≡ ts → gs ≡ fs → HaveSameItems lists new → length new ≡ length lists → IsStore problem cs atoms es us gs new
+  pub store_room : (cs : List Clause) (us gs : List ℕ) (new : List OccurrenceList) → cs ≡ clauses → us ≡ ts → gs ≡ fs → HaveSameItems lists new → length new ≡ length lists → IsStore problem cs atoms es us gs new splits
   store_room cs us gs new is_c is_u is_g same len = rw (is_c, is_u, is_g) made
     where
-      made : IsStore problem clauses atoms es ts fs new
+      made : IsStore problem clauses atoms es ts fs new splits
       made = record {
         atoms_are = h.atoms_are;
         shaped = h.shaped;
         short = h.short;
         counted = h.counted;
         listed = record { atoms_number = len ∙ h.listed.atoms_number; numbers = λ b n a. rw (same a) (h.listed.numbers b n a); below = λ a. rw (same a) (h.listed.below a) };
+        split = split_same (length problem.rules) splits lists h.split new same len;
         caused = h.caused;
       }
 
   pub store_add : (c : Clause) (t f n : ℕ) (cs : List Clause) (us gs : List ℕ) (mid new : List OccurrenceList) → are_within problem.atoms c.lits ≡ true → repeats c.lits ≡ false → length c.lits < 2 ^ 63 → n ≡ length ts
       → t ≡ trues (values_of atoms es) c.lits → f ≡ falses (values_of atoms es) c.lits → cs ≡ clauses ++ c ∷ [] → us ≡ ts ++ t ∷ [] → gs ≡ fs ++ f ∷ []
-      → HaveSameItems lists mid → length new ≡ length lists → AreEntered mid new n c.lits → IsStore problem cs atoms es us gs new
-  store_add c t f n cs us gs mid new within distinct few number is_t is_f is_c is_u is_g same len entered = rw (is_c, is_u, is_g) made
+      → HaveSameItems lists mid → length mid ≡ length lists → length new ≡ length lists → AreEntered mid new n c.lits → IsStore problem cs atoms es us gs new splits
+  store_add c t f n cs us gs mid new within distinct few number is_t is_f is_c is_u is_g same mid_len len entered = rw (is_c, is_u, is_g) made
     where
       count : n ≡ length (constraints_of problem clauses)
       count = number ∙ h.counted.trues_number
 
-      made : IsStore problem (clauses ++ c ∷ []) atoms es (ts ++ t ∷ []) (fs ++ f ∷ []) new
+      later : length problem.rules ≤ n
+      later = omega (arith, count, length-append problem.rules (map rule_of_clause clauses))
+
+      made : IsStore problem (clauses ++ c ∷ []) atoms es (ts ++ t ∷ []) (fs ++ f ∷ []) new splits
       made = record {
         atoms_are = h.atoms_are;
         shaped = rw constraints_push (each_push (IsShaped problem.atoms) (constraints_of problem clauses) (rule_of_clause c) h.shaped (record { in_range = within; distinct = distinct; bounds = λ lt. omega arith }));
         short = rw constraints_push (short_push (constraints_of problem clauses) (rule_of_clause c) h.short few);
         counted = rw constraints_push (counted_push (values_of problem.atoms es) (constraints_of problem clauses) (rule_of_clause c) ts fs t f h.counted (rw h.atoms_are at is_t) (rw h.atoms_are at is_f));
         listed = rw constraints_push (listed_push problem.atoms (constraints_of problem clauses) (rule_of_clause c) lists mid new h.listed same (len ∙ h.listed.atoms_number) (rw count at entered));
+        split = split_enter (length problem.rules) splits mid (split_same (length problem.rules) splits lists h.split mid same mid_len) n c.lits new entered later (len ∙ sym mid_len);
         caused = caused_more problem clauses c es (replicate problem.atoms None) h.caused;
       }

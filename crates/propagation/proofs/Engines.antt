@@ -1,8 +1,8 @@
 -- Why each literal of a trail follows, and what stays true of the parts of an engine.
-use Rattle.std.proofs.Common.{◌≡◌, ◌≢◌, cond, ℕ, zero, suc, ◌+◌, ◌<◌, ◌≤◌, Bool, true, false, not, List, [], ◌∷◌, ◌++◌, length, length-append, length-take, take, Option, Some, None, refl, sym, ap, ◌∙◌, arith, slice_get}
+use Rattle.std.proofs.Common.{◌≡◌, ◌≢◌, cond, ℕ, zero, suc, ◌+◌, ◌<◌, ◌≤◌, Bool, true, false, not, List, [], ◌∷◌, ◌++◌, length, length-append, length-take, take, Option, Some, None, refl, ap, ◌∙◌, arith, slice_get}
 use Rattle.std.specs.Prelude.{slice_set, replicate, ◌==◌}
 use Rattle.std.specs.List.{AllByRecursion as Each}
-use Rattle.std.proofs.lemmas.List.{length-set}
+use Rattle.std.proofs.lemmas.List.{length-set, length-replicate}
 use Rattle.count_core.specs.declared.lit.Lit.{Lit}
 use Rattle.count_core.specs.declared.hint.Hint.{Hint}
 use Rattle.count_core.specs.declared.hint.Hint.TheVariants.{Rule, Step as Earlier}
@@ -13,6 +13,7 @@ use Rattle.count_core.specs.PartialAssignments.{PartialAssignment, value_at, is_
 use Rattle.count_core.proofs.Lists.{each_at, each_push}
 use Rattle.count_core.proofs.Agreement.{nothing_agrees, set_agrees, true_met, forced_agrees}
 use Rattle.count_core.proofs.Soundness.{clause_met}
+use Rattle.propagation.specs.declared.progress.Progress.{Progress}
 use Rattle.propagation.specs.declared.clause.Clause.{Clause}
 use Rattle.propagation.specs.Trails.{Entry, with_true, values_of, IsFree}
 use Rattle.propagation.specs.Constraints.{rule_of_clause, IsNamed}
@@ -21,10 +22,10 @@ use Rattle.propagation.specs.Firings.{Firing, directed, entries_setting, entries
 use Rattle.propagation.specs.Engines.{AddsForced}
 use Rattle.propagation.specs.Occurrences.{counter}
 use Rattle.propagation.specs.Stores.{Store, constraints_in, constraint_in, values_in, HasCausedTrail, OnlyTrailDiffers, Grows}
-use Rattle.propagation.specs.Queues.{AreQuiet, AreQuietAt, IsNoGreater, IsEngine}
+use Rattle.propagation.specs.Queues.{AreQuiet, AreQuietAt, IsDone, IsNoGreater, IsWithin, IsEngine}
 use Rattle.propagation.proofs.Trails.{length_values}
-use Rattle.propagation.proofs.Queues.{quiet_grow, quiet_at_grow, quiet_at_set, quiet_at_below, quiet_from}
-use Rattle.propagation.proofs.Clauses.{constraints_push, constraint_before}
+use Rattle.propagation.proofs.Queues.{head_within, quiet_grow, quiet_at_grow, quiet_at_set, quiet_at_below, quiet_from}
+use Rattle.propagation.proofs.Clauses.{constraints_push, constraint_before, counter_zero}
 
 -- ---- each literal follows
 
@@ -87,21 +88,29 @@ free_where atoms es l lt none = go (values_of atoms es) l.atom.0 (let len = leng
     go (o ∷ p) (suc a) lt e = go p a (omega arith) e
 
 -- the trail grows, and nothing was examined
-pub engine_grow : (old new : Store) (es : List Entry) (head examined : ℕ) (quiet_at : List ℕ) → HasCausedTrail new → IsEngine old head examined quiet_at → OnlyTrailDiffers old new → new.entries ≡ old.entries ++ es → IsEngine new head examined quiet_at
-engine_grow old new es head examined quiet_at caused h kept is = record {
-  head_within = omega (arith, h.head_within, ap length is, length-append old.entries es);
-  examined_within = rw (kept.problem, kept.clauses) h.examined_within;
-  quiet = quiet_grow old new es head examined [] caused h.quiet kept is h.head_within;
-  lengths = rw kept.problem h.lengths;
-  counts_within = rw (kept.problem, kept.clauses) h.counts_within;
-  are_quiet_at = quiet_at_grow old new es quiet_at h.are_quiet_at kept is;
-  follow = rw (kept.problem, kept.clauses) h.follow;
-}
+pub engine_grow : (old new : Store) (es : List Entry) (q : Progress) (quiet_at : List ℕ) → HasCausedTrail new → IsEngine old q quiet_at → OnlyTrailDiffers old new → new.entries ≡ old.entries ++ es → IsEngine new q quiet_at
+engine_grow old new es q quiet_at caused h kept is =
+    let long : length old.entries ≤ length new.entries = omega (arith, ap length is, length-append old.entries es) in
+    record {
+      within = record {
+        rules = omega (arith, h.within.rules);
+        clauses = omega (arith, h.within.clauses);
+        examined = rw (kept.problem, kept.clauses) h.within.examined;
+      };
+      quiet = quiet_grow old new es q [] caused h.quiet kept is (λ n. head_within old q n h.within);
+      lengths = rw kept.problem h.lengths;
+      counts_within = rw (kept.problem, kept.clauses) h.counts_within;
+      are_quiet_at = quiet_at_grow old new es quiet_at h.are_quiet_at kept is;
+      follow = rw (kept.problem, kept.clauses) h.follow;
+    }
 
-pub engine_same : (old new : Store) (head examined : ℕ) (quiet_at : List ℕ) → IsEngine old head examined quiet_at → new.problem ≡ old.problem → new.clauses ≡ old.clauses → new.entries ≡ old.entries → IsEngine new head examined quiet_at
-engine_same old new head examined quiet_at h problem clauses entries = record {
-  head_within = rw entries h.head_within;
-  examined_within = rw (problem, clauses) h.examined_within;
+pub engine_same : (old new : Store) (q : Progress) (quiet_at : List ℕ) → IsEngine old q quiet_at → new.problem ≡ old.problem → new.clauses ≡ old.clauses → new.entries ≡ old.entries → IsEngine new q quiet_at
+engine_same old new q quiet_at h problem clauses entries = record {
+  within = record {
+    rules = rw entries h.within.rules;
+    clauses = rw entries h.within.clauses;
+    examined = rw (problem, clauses) h.within.examined;
+  };
   quiet = rw (problem, clauses, entries) h.quiet;
   lengths = rw problem h.lengths;
   counts_within = rw (problem, clauses) h.counts_within;
@@ -110,10 +119,9 @@ engine_same old new head examined quiet_at h problem clauses entries = record {
 }
 
 -- it was propagated
-pub engine_run : (old new : Store) (head examined more all : ℕ) (quiet_at : List ℕ) → IsEngine old head examined quiet_at → OnlyTrailDiffers old new → Grows old new → more ≤ length new.entries → all ≤ length (constraints_in new) → AreQuiet new more all → IsEngine new more all quiet_at
-engine_run old new head examined more all quiet_at h kept (fs, hf, is) le within quiet = record {
-  head_within = le;
-  examined_within = within;
+pub engine_run : (old new : Store) (q r : Progress) (quiet_at : List ℕ) → IsEngine old q quiet_at → OnlyTrailDiffers old new → Grows old new → IsWithin new r → AreQuiet new r → IsEngine new r quiet_at
+engine_run old new q r quiet_at h kept (fs, hf, is) within quiet = record {
+  within = within;
   quiet = quiet;
   lengths = rw kept.problem h.lengths;
   counts_within = rw (kept.problem, kept.clauses) h.counts_within;
@@ -122,40 +130,46 @@ engine_run old new head examined more all quiet_at h kept (fs, hf, is) le within
 }
 
 -- all is quiet, which is noted
-pub engine_note : (s : Store) (head examined place : ℕ) (quiet_at : List ℕ) → IsEngine s head examined quiet_at → head ≡ length s.entries → examined ≡ length (constraints_in s) → place ≡ length s.entries → length s.entries ≤ s.problem.atoms → IsEngine s head examined (slice_set quiet_at place examined)
-engine_note s head examined place quiet_at h e f g few =
-    let same : place ≡ head = g ∙ sym e in
+pub engine_note : (s : Store) (q : Progress) (place : ℕ) (quiet_at : List ℕ) → IsEngine s q quiet_at → IsDone s q → place ≡ length s.entries → length s.entries ≤ s.problem.atoms → IsEngine s q (slice_set quiet_at place q.examined)
+engine_note s q place quiet_at h done is few =
     let number = h.lengths in
-    let lt : head < length quiet_at = omega arith in
-    rw same (record {
-      head_within = h.head_within;
-      examined_within = h.examined_within;
+    let lt : place < length quiet_at = omega arith in
+    record {
+      within = h.within;
       quiet = h.quiet;
-      lengths = length-set quiet_at head examined ∙ h.lengths;
-      counts_within = quiet_at_below quiet_at head examined (length (constraints_in s)) h.counts_within h.examined_within lt;
-      are_quiet_at = quiet_at_set s quiet_at head examined h.are_quiet_at h.quiet e f lt;
+      lengths = length-set quiet_at place q.examined ∙ h.lengths;
+      counts_within = quiet_at_below quiet_at place q.examined (length (constraints_in s)) h.counts_within h.within.examined lt;
+      are_quiet_at = quiet_at_set s quiet_at q place h.are_quiet_at h.quiet done is lt;
       follow = h.follow;
-    })
+    }
 
 -- entries were taken away
-pub engine_back : (old new : Store) (head examined left at : ℕ) (before after : List ℕ) → HasCausedTrail new → IsEngine old head examined before → OnlyTrailDiffers old new → new.entries ≡ take left old.entries → left ≤ length old.entries → at ≤ left
-    → AreQuietAt new after → length after ≡ length before → IsNoGreater after before → IsEngine new at (counter after at) after
-engine_back old new head examined left at before after caused h kept is le low quiet_at number less = record {
-  head_within = omega (arith, ap length is, length-take left old.entries);
-  examined_within = rw (kept.problem, kept.clauses) (omega (arith, less at, h.counts_within at));
-  quiet = quiet_from new after at caused quiet_at;
-  lengths = rw kept.problem (number ∙ h.lengths);
-  counts_within = λ i. rw (kept.problem, kept.clauses) (omega (arith, less i, h.counts_within i));
-  are_quiet_at = quiet_at;
-  follow = rw (kept.problem, kept.clauses) h.follow;
-}
+pub engine_back : (old new : Store) (q : Progress) (left at : ℕ) (before after : List ℕ) → HasCausedTrail new → IsEngine old q before → OnlyTrailDiffers old new → new.entries ≡ take left old.entries → left ≤ length old.entries → at ≤ left
+    → AreQuietAt new after → length after ≡ length before → IsNoGreater after before → IsEngine new (record { rules = at; clauses = at; examined = counter after at }) after
+engine_back old new q left at before after caused h kept is le low quiet_at number less =
+    let within : at ≤ length new.entries = omega (arith, ap length is, length-take left old.entries) in
+    record {
+      within = record {
+        rules = within;
+        clauses = within;
+        examined = rw (kept.problem, kept.clauses) (omega (arith, less at, h.counts_within at));
+      };
+      quiet = quiet_from new after at caused quiet_at;
+      lengths = rw kept.problem (number ∙ h.lengths);
+      counts_within = λ i. rw (kept.problem, kept.clauses) (omega (arith, less i, h.counts_within i));
+      are_quiet_at = quiet_at;
+      follow = rw (kept.problem, kept.clauses) h.follow;
+    }
 
 -- a clause was added
-pub engine_add : (old new : Store) (c : Clause) (head examined : ℕ) (quiet_at : List ℕ) → IsEngine old head examined quiet_at → new.problem ≡ old.problem → new.clauses ≡ old.clauses ++ c ∷ [] → new.entries ≡ old.entries → Follows old.problem c.lits → IsEngine new head examined quiet_at
-engine_add old new c head examined quiet_at h problem clauses entries follows = record {
-  head_within = rw entries h.head_within;
-  examined_within = omega (arith, h.examined_within, longer);
-  quiet = λ n low un unlisted. (let same = before n (omega (arith, low, h.examined_within)) in rw (same, problem, entries) (h.quiet n low (rw (same, entries) at un) unlisted));
+pub engine_add : (old new : Store) (c : Clause) (q : Progress) (quiet_at : List ℕ) → IsEngine old q quiet_at → new.problem ≡ old.problem → new.clauses ≡ old.clauses ++ c ∷ [] → new.entries ≡ old.entries → Follows old.problem c.lits → IsEngine new q quiet_at
+engine_add old new c q quiet_at h problem clauses entries follows = record {
+  within = record {
+    rules = rw entries h.within.rules;
+    clauses = rw entries h.within.clauses;
+    examined = omega (arith, h.within.examined, longer);
+  };
+  quiet = λ n low un unlisted. (let same = before n (omega (arith, low, h.within.examined)) in rw (same, problem, entries) (h.quiet n low (rw (same, problem, entries) at un) unlisted));
   lengths = rw problem h.lengths;
   counts_within = λ i. omega (arith, h.counts_within i, longer);
   are_quiet_at = λ i n low. rw (before n (omega (arith, low, h.counts_within i)), problem, entries) (h.are_quiet_at i n low);
@@ -170,3 +184,14 @@ engine_add old new c head examined quiet_at h problem clauses entries follows = 
 
     before : (n : ℕ) → n < length (constraints_in old) → constraint_in new n ≡ constraint_in old n
     before n lt = rw (problem, clauses) (constraint_before old.problem old.clauses c n lt)
+
+-- an engine as it is made
+pub engine_new : (s : Store) (quiet_at : List ℕ) → s.clauses ≡ [] → quiet_at ≡ replicate (s.problem.atoms + 1) 0 → IsEngine s (record { rules = 0; clauses = 0; examined = 0 }) quiet_at
+engine_new s quiet_at clauses is = record {
+  within = record { rules = omega arith; clauses = omega arith; examined = omega arith };
+  quiet = λ n low un unlisted. absurd (omega arith);
+  lengths = rw is (let z : ℕ = 0 in length-replicate (s.problem.atoms + 1) z);
+  counts_within = λ i. rw is (omega (arith, counter_zero (s.problem.atoms + 1) i));
+  are_quiet_at = λ i n low. (let low' = rw is at low in absurd (omega (arith, low', counter_zero (s.problem.atoms + 1) i)));
+  follow = rw clauses tt;
+}

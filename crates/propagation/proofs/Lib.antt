@@ -4,6 +4,7 @@ pub mod Counting
 pub mod Statuses
 pub mod Stores
 pub mod Lists
+pub mod Splits
 pub mod Clauses
 pub mod Forced
 pub mod Queues

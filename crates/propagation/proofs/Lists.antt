@@ -1,7 +1,7 @@
 -- Literals that are entered at their atoms.
 use Rattle.std.proofs.Common.{◌≡◌, ◌≢◌, ℕ, ◌+◌, ◌<◌, ◌≤◌, ◌^◌, Bool, true, false, cond, List, [], ◌∷◌, ◌++◌, length, length-append, length-take, take, drop, get_or, refl, sym, ap, ◌∙◌, arith}
 use Rattle.std.specs.Prelude.{slice_set, ◌==◌, ◌&&◌}
-use Rattle.std.proofs.lemmas.List.{get_or-set_same, get_or-set_other, get_or_default, get_or_past, drop_all, drop_more, take_more}
+use Rattle.std.proofs.lemmas.List.{append_assoc, get_or-set_same, get_or-set_other, get_or_default, get_or_past, drop_all, drop_more, take_more}
 use Rattle.count_core.specs.declared.lit.Lit.{Lit}
 use Rattle.count_core.specs.declared.count_rule.CountRule.{CountRule}
 use Rattle.count_core.specs.Problems.{mentions, repeats}
@@ -9,8 +9,8 @@ use Rattle.count_core.specs.Assignments.{under_sign}
 use Rattle.count_core.proofs.Lists.{count_cons, each_map, each_push}
 use Rattle.propagation.specs.declared.occurrence.Occurrence.{Occurrence}
 use Rattle.propagation.specs.Constraints.{nth, no_constraint}
-use Rattle.propagation.specs.Occurrences.{OccurrenceList, no_list, items_at, room_at, HasRoomAt, HaveRoomFor, HaveSameItems, IsEmptyAt, number_listed, number_in, number_if, AreBelow, AreEntered, AreListed, AreShort}
-use Rattle.propagation.proofs.Basics.{bit, neither, same_is, apart_is, apart_back, nth_push}
+use Rattle.propagation.specs.Occurrences.{OccurrenceList, no_list, items_at, room_at, HasRoomAt, HaveRoomFor, HaveSameItems, IsEmptyAt, number_listed, number_in, number_if, IsAppended, AreEntered, AreListed, AreShort}
+use Rattle.propagation.proofs.Basics.{bit, neither, same_is, apart_is, apart_back, nth_push, each_append}
 
 -- ---- the list of one atom is written
 
@@ -73,15 +73,15 @@ module _ (lists : List OccurrenceList) (k : ℕ) (v old d : OccurrenceList) (lt 
         go true e = (let same = same_is k a e in rw (← same, new_items, pushed, old_items) (at_end old.items))
         go false e = rw (other_items a (apart_back k a e)) (omega arith)
 
-    pub pushed_below : (m a : ℕ) → o.constraint < m → AreBelow m (items_at lists a) → AreBelow m (items_at (slice_set lists k v) a)
-    pushed_below m a low h = go (a == k) refl
+    pub pushed_appended : (n : ℕ) (was : List Occurrence) (a : ℕ) → o.constraint ≡ n → IsAppended n was (items_at lists a) → IsAppended n was (items_at (slice_set lists k v) a)
+    pushed_appended n was a own (os, is, of) = go (a == k) refl
       where
-        go : (t : Bool) → (a == k) ≡ t → AreBelow m (items_at (slice_set lists k v) a)
+        go : (t : Bool) → (a == k) ≡ t → IsAppended n was (items_at (slice_set lists k v) a)
         go true e =
             let same = same_is a k e in
-            let h' : AreBelow m old.items = rw (same, old_items) at h in
-            rw (same, new_items, pushed) (each_push (λ (p : Occurrence). p.constraint < m) old.items o h' low)
-        go false e = rw (other_items a (apart_is a k e)) h
+            let before : old.items ≡ was ++ os = sym old_items ∙ rw (← same) is in
+            (os ++ o ∷ [], rw (same, new_items, pushed, before) (append_assoc was os (o ∷ [])), each_push (λ (p : Occurrence). p.constraint ≡ n) os o of own)
+        go false e = (os, other_items a (apart_is a k e) ∙ is, of)
 
     -- other atoms keep their room
     others_room : (ls : List Lit) → mentions k ls ≡ false → HaveRoomFor lists ls → HaveRoomFor (slice_set lists k v) ls
@@ -138,7 +138,9 @@ pub listed_push : (atoms : ℕ) (rules : List CountRule) (r : CountRule) (before
 listed_push atoms rules r before mid after h same len entered = record {
   atoms_number = len;
   numbers = λ b n a. (let f = rw (same a) at (entered.numbers b n a) in omega (arith, f, number_push rules r b n a, h.numbers b n a));
-  below = λ a. rw longer (entered.below (length rules + 1) a (omega arith) (rw (same a) (each_map (λ (o : Occurrence). o.constraint < length rules) (λ (o : Occurrence). o.constraint < length rules + 1) (items_at before a) (λ o lt. omega arith) (h.below a))));
+  below = λ a. rw (longer, (entered.appended a).1, same a) (each_append (λ (o : Occurrence). o.constraint < length rules + 1) (items_at before a) (entered.appended a).0
+      (each_map (λ (o : Occurrence). o.constraint < length rules) (λ (o : Occurrence). o.constraint < length rules + 1) (items_at before a) (λ o lt. omega arith) (h.below a))
+      (each_map (λ (o : Occurrence). o.constraint ≡ length rules) (λ (o : Occurrence). o.constraint < length rules + 1) (entered.appended a).0 (λ o is. omega arith) (entered.appended a).2));
 }
   where
     longer : length (rules ++ r ∷ []) ≡ length rules + 1

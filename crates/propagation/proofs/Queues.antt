@@ -1,5 +1,5 @@
 -- Which constraints stay quiet, as the trail grows and shrinks.
-use Rattle.std.proofs.Common.{◌≡◌, ◌≢◌, ℕ, zero, suc, ◌+◌, ◌-◌, ◌<◌, ◌≤◌, Bool, true, false, not, cond, List, [], ◌∷◌, ◌++◌, length, length-append, take, drop, get_or, Option, Some, None, refl, sym, ap, ◌∙◌, arith}
+use Rattle.std.proofs.Common.{◌≡◌, ◌≢◌, ℕ, zero, suc, ◌+◌, ◌-◌, ◌<◌, ◌≤◌, Bool, true, false, not, cond, List, [], ◌∷◌, ◌++◌, length, length-append, length-take, take, drop, get_or, Option, Some, None, refl, sym, ap, ◌∙◌, arith}
 use Rattle.std.specs.Prelude.{◌&&◌, slice_set, ◌==◌, ◌||◌, nat_lt, replicate}
 use Rattle.std.specs.List.{AllByRecursion as Each}
 use Rattle.std.proofs.lemmas.Bool.Decides.{nat_tests, Decides-ltb}
@@ -16,14 +16,15 @@ use Rattle.count_core.proofs.Lists.{count_cons}
 use Rattle.count_core.proofs.Assigning.{value_at_other}
 use Rattle.count_core.proofs.RuleEffects.{numbers_add, conflicts_is, forces_is, forced_is}
 use Rattle.propagation.specs.declared.clause.Clause.{Clause}
+use Rattle.propagation.specs.declared.progress.Progress.{Progress}
 use Rattle.propagation.specs.declared.occurrence.Occurrence.{Occurrence}
 use Rattle.propagation.specs.Trails.{Entry, with_true, extended, values_of, IsFree, AreFree}
 use Rattle.propagation.specs.Constraints.{IsQuietConstraint, no_constraint}
 use Rattle.propagation.specs.Causes.{AreCaused}
 use Rattle.propagation.specs.Firings.{Firing, AreFirings, after_firings, entries_forced, entries_fired}
-use Rattle.propagation.specs.Occurrences.{no_occurrence, number_in, is_listed, counter}
-use Rattle.propagation.specs.Stores.{Store, constraints_in, constraint_in, values_in, no_entry, HasCausedTrail, OnlyTrailDiffers, Grows}
-use Rattle.propagation.specs.Queues.{falsifies, affects, is_affected, AreQuietBut, AreQuiet, AreQuietAt, IsNoGreater}
+use Rattle.propagation.specs.Occurrences.{no_occurrence, number_in, is_listed, items_at, counter}
+use Rattle.propagation.specs.Stores.{Store, constraints_in, constraint_in, values_in, rules_number, in_rules, IsQuietIn, in_clauses, no_entry, HasCausedTrail, OnlyTrailDiffers, Grows}
+use Rattle.propagation.specs.Queues.{falsifies, affects, is_affected, past_rules, past_clauses, past_constraint, head_of, AreQuietBut, AreQuiet, IsWithin, IsDone, HaveNoRules, HaveNoClauses, AreQuietAt, IsNoGreater}
 use Rattle.propagation.proofs.Basics.{bit, neither, false_both, same_is, apart_is, each_from, drop_push}
 use Rattle.propagation.proofs.Trails.{extended_append}
 use Rattle.propagation.proofs.Counting.{sign_not, trues_after, falses_after}
@@ -117,13 +118,14 @@ free_rest problem clauses [] (y ∷ ys) p h = (h.0, free_rest problem clauses []
 free_rest problem clauses (x ∷ xs) ys p h = free_rest problem clauses xs ys (with_true p x.lit) h.2
 
 pub differs_same : (a : Store) → OnlyTrailDiffers a a
-differs_same a = record { problem = refl; clauses = refl; lists = refl; room = omega arith }
+differs_same a = record { problem = refl; clauses = refl; lists = refl; splits = refl; room = omega arith }
 
 pub differs_trans : (a b c : Store) → OnlyTrailDiffers a b → OnlyTrailDiffers b c → OnlyTrailDiffers a c
 differs_trans a b c f g = record {
   problem = g.problem ∙ f.problem;
   clauses = g.clauses ∙ f.clauses;
   lists = g.lists ∙ f.lists;
+  splits = g.splits ∙ f.splits;
   room = omega (arith, f.room, g.room);
 }
 
@@ -181,64 +183,121 @@ affected_append (x ∷ xs) ys r e =
     let rest = affected_append xs ys r parts.1 in
     (rw (parts.0, rest.0) refl, rest.1)
 
+-- the head of a constraint is within the trail
+pub head_within : (s : Store) (q : Progress) (n : ℕ) → IsWithin s q → head_of s q n ≤ length s.entries
+head_within s q n h = go (nat_lt n (rules_number s))
+  where
+    go : (t : Bool) → cond t q.rules q.clauses ≤ length s.entries
+    go true = h.rules
+    go false = h.clauses
+
 -- the trail grows
-pub quiet_grow : (old new : Store) (es : List Entry) (head examined : ℕ) (os : List Occurrence) → HasCausedTrail new → AreQuietBut old head examined os → OnlyTrailDiffers old new → new.entries ≡ old.entries ++ es → head ≤ length old.entries → AreQuietBut new head examined os
-quiet_grow old new es head examined os caused h kept is le n low un unlisted =
+pub quiet_grow : (old new : Store) (es : List Entry) (q : Progress) (os : List Occurrence) → HasCausedTrail new → AreQuietBut old q os → OnlyTrailDiffers old new → new.entries ≡ old.entries ++ es → ((n : ℕ) → head_of old q n ≤ length old.entries) → AreQuietBut new q os
+quiet_grow old new es q os caused h kept is within n low un unlisted =
     let same : constraint_in new n ≡ constraint_in old n = rw (kept.problem, kept.clauses) refl in
-    let split = affected_append (drop head old.entries) es (constraint_in old n) (rw (same, is, drop_push old.entries es head le) at un) in
+    let head : head_of new q n ≡ head_of old q n = rw kept.problem refl in
+    let split = affected_append (drop (head_of old q n) old.entries) es (constraint_in old n) (rw (head, same, is, drop_push old.entries es (head_of old q n) (within n)) at un) in
     let before = h n low split.0 unlisted in
     let free : AreFree (values_in old) es = free_rest old.problem old.clauses old.entries es (replicate old.problem.atoms None) (rw (is, kept.problem, kept.clauses) at caused) in
     rw (same, kept.problem, is, extended_append (replicate old.problem.atoms None) old.entries es) (quiet_extended es (values_in old) (constraint_in old n) free split.1 before)
 
-pub quiet_more : (old new : Store) (head examined : ℕ) (os : List Occurrence) → HasCausedTrail new → AreQuietBut old head examined os → OnlyTrailDiffers old new → Grows old new → head ≤ length old.entries → AreQuietBut new head examined os
-quiet_more old new head examined os caused h kept (fs, hf, is) le = quiet_grow old new (entries_fired (values_in old) fs) head examined os caused h kept is le
+pub quiet_more : (old new : Store) (q : Progress) (os : List Occurrence) → HasCausedTrail new → AreQuietBut old q os → OnlyTrailDiffers old new → Grows old new → IsWithin old q → AreQuietBut new q os
+quiet_more old new q os caused h kept (fs, hf, is) within = quiet_grow old new (entries_fired (values_in old) fs) q os caused h kept is (λ n. head_within old q n within)
 
--- the first pending entry is split off
-first_pending : (s : Store) (head : ℕ) (r : CountRule) → head < length s.entries → is_affected (drop head s.entries) r ≡ (affects (get_or s.entries head no_entry).lit r || is_affected (drop (head + 1) s.entries) r)
-first_pending s head r lt = rw (drop_more s.entries head no_entry lt) refl
+pub within_more : (old new : Store) (q : Progress) → IsWithin old q → OnlyTrailDiffers old new → Grows old new → IsWithin new q
+within_more old new q h kept grows =
+    let long = grows_longer old new grows in
+    record {
+      rules = omega (arith, long, h.rules);
+      clauses = omega (arith, long, h.clauses);
+      examined = rw (kept.problem, kept.clauses) h.examined;
+    }
 
--- it is passed: the constraints listed at its atom may not be quiet
-pub quiet_start : (s : Store) (head examined : ℕ) (os : List Occurrence) → AreQuiet s head examined → head < length s.entries → ((n : ℕ) → is_listed n os ≡ false → mentions (get_or s.entries head no_entry).lit.atom.0 (constraint_in s n).lits ≡ false) → AreQuietBut s (head + 1) examined os
-quiet_start s head examined os h lt others n low un unlisted =
-    h n low (first_pending s head (constraint_in s n) lt ∙ rw (unmentioned (get_or s.entries head no_entry).lit (constraint_in s n) (others n unlisted), un) refl) refl
+-- the next entry was visited
+pub within_rules : (s : Store) (q : Progress) → IsWithin s q → q.rules < length s.entries → IsWithin s (past_rules q)
+within_rules s q h lt = record { rules = omega arith; clauses = h.clauses; examined = h.examined }
 
--- one of those listed needs no look, or was examined
-module _ (s : Store) (head examined : ℕ) (os : List Occurrence) (k : ℕ) (lt : k < length os) where
-  split : (n : ℕ) → is_listed n (drop k os) ≡ (((get_or os k no_occurrence).constraint == n) || is_listed n (drop (k + 1) os))
-  split n = rw (drop_more os k no_occurrence lt) refl
+pub within_clauses : (s : Store) (q : Progress) → IsWithin s q → q.clauses < length s.entries → IsWithin s (past_clauses q)
+within_clauses s q h lt = record { rules = h.rules; clauses = omega arith; examined = h.examined }
 
-  pub quiet_examined : AreQuietBut s head examined (drop k os) → IsQuietConstraint (values_in s) (constraint_in s (get_or os k no_occurrence).constraint) → AreQuietBut s head examined (drop (k + 1) os)
+-- a pending entry is split off
+pending_first : (s : Store) (head : ℕ) (r : CountRule) → head < length s.entries → is_affected (drop head s.entries) r ≡ (affects (get_or s.entries head no_entry).lit r || is_affected (drop (head + 1) s.entries) r)
+pending_first s head r lt = rw (drop_more s.entries head no_entry lt) refl
+
+pending_passed : (s : Store) (head : ℕ) (r : CountRule) → head < length s.entries → affects (get_or s.entries head no_entry).lit r ≡ false → is_affected (drop (head + 1) s.entries) r ≡ false → is_affected (drop head s.entries) r ≡ false
+pending_passed s head r lt e f = pending_first s head r lt ∙ rw (e, f) refl
+
+-- the first entry is passed for the rules: those listed at its atom may not be quiet
+pub start_rules : (s : Store) (q : Progress) → AreQuiet s q → q.rules < length s.entries → HaveNoRules s (get_or s.entries q.rules no_entry).lit.atom.0 → AreQuietBut s (past_rules q) (in_rules s (get_or s.entries q.rules no_entry).lit.atom.0)
+start_rules s q h lt others n low un unlisted = go (nat_lt n (rules_number s)) refl un (λ e. h n low e refl)
+  where
+    go : (t : Bool) → nat_lt n (rules_number s) ≡ t → is_affected (drop (cond t (q.rules + 1) q.clauses) s.entries) (constraint_in s n) ≡ false → (is_affected (drop (cond (nat_lt n (rules_number s)) q.rules q.clauses) s.entries) (constraint_in s n) ≡ false → IsQuietIn s n) → IsQuietIn s n
+    go true is un rest =
+        let mentions_none = others n ((Decides-ltb n (rules_number s)).0 is) unlisted in
+        rest (rw is (pending_passed s q.rules (constraint_in s n) lt (unmentioned (get_or s.entries q.rules no_entry).lit (constraint_in s n) mentions_none) un))
+    go false is un rest = rest (rw is un)
+
+-- or for the clauses
+pub start_clauses : (s : Store) (q : Progress) → AreQuiet s q → q.clauses < length s.entries → HaveNoClauses s (get_or s.entries q.clauses no_entry).lit.atom.0 → AreQuietBut s (past_clauses q) (in_clauses s (get_or s.entries q.clauses no_entry).lit.atom.0)
+start_clauses s q h lt others n low un unlisted = go (nat_lt n (rules_number s)) refl un (λ e. h n low e refl)
+  where
+    go : (t : Bool) → nat_lt n (rules_number s) ≡ t → is_affected (drop (cond t q.rules (q.clauses + 1)) s.entries) (constraint_in s n) ≡ false → (is_affected (drop (cond (nat_lt n (rules_number s)) q.rules q.clauses) s.entries) (constraint_in s n) ≡ false → IsQuietIn s n) → IsQuietIn s n
+    go true is un rest = rest (rw is un)
+    go false is un rest =
+        let from : rules_number s ≤ n = grind (arith, nat_tests) in
+        let mentions_none = others n from unlisted in
+        rest (rw is (pending_passed s q.clauses (constraint_in s n) lt (unmentioned (get_or s.entries q.clauses no_entry).lit (constraint_in s n) mentions_none) un))
+
+-- so many occurrences are in rules
+pub short_rules : (s : Store) (a k : ℕ) → k < counter s.splits a → counter s.splits a ≤ length (items_at s.lists a) → k < length (in_rules s a)
+short_rules s a k lt le = omega (arith, length-take (counter s.splits a) (items_at s.lists a))
+
+-- one of those listed was examined, or needs no look
+module _ (s : Store) (q : Progress) (os : List Occurrence) (k : ℕ) (lt : k < length os) where
+  listed_first : (n : ℕ) → is_listed n (drop k os) ≡ (((get_or os k no_occurrence).constraint == n) || is_listed n (drop (k + 1) os))
+  listed_first n = rw (drop_more os k no_occurrence lt) refl
+
+  pub quiet_examined : AreQuietBut s q (drop k os) → IsQuietIn s (get_or os k no_occurrence).constraint → AreQuietBut s q (drop (k + 1) os)
   quiet_examined h quiet n low un unlisted = go ((get_or os k no_occurrence).constraint == n) refl
     where
-      go : (t : Bool) → ((get_or os k no_occurrence).constraint == n) ≡ t → IsQuietConstraint (values_in s) (constraint_in s n)
+      go : (t : Bool) → ((get_or os k no_occurrence).constraint == n) ≡ t → IsQuietIn s n
       go true e = rw (← same_is (get_or os k no_occurrence).constraint n e) quiet
-      go false e = h n low un (split n ∙ rw (e, unlisted) refl)
+      go false e = h n low un (listed_first n ∙ rw (e, unlisted) refl)
 
-  pub quiet_passed : AreQuiet s head examined → AreQuietBut s (head + 1) examined (drop k os) → head < length s.entries → affects (get_or s.entries head no_entry).lit (constraint_in s (get_or os k no_occurrence).constraint) ≡ false → AreQuietBut s (head + 1) examined (drop (k + 1) os)
-  quiet_passed still h within passed n low un unlisted = go ((get_or os k no_occurrence).constraint == n) refl
+  pub quiet_passed : AreQuiet s q → AreQuietBut s (past_clauses q) (drop k os) → q.clauses < length s.entries → rules_number s ≤ (get_or os k no_occurrence).constraint → affects (get_or s.entries q.clauses no_entry).lit (constraint_in s (get_or os k no_occurrence).constraint) ≡ false → AreQuietBut s (past_clauses q) (drop (k + 1) os)
+  quiet_passed still h within from passed n low un unlisted = go ((get_or os k no_occurrence).constraint == n) refl
     where
-      go : (t : Bool) → ((get_or os k no_occurrence).constraint == n) ≡ t → IsQuietConstraint (values_in s) (constraint_in s n)
-      go true e = still n low (first_pending s head (constraint_in s n) within ∙ rw (rw (same_is (get_or os k no_occurrence).constraint n e) at passed, un) refl) refl
-      go false e = h n low un (split n ∙ rw (e, unlisted) refl)
+      go : (t : Bool) → ((get_or os k no_occurrence).constraint == n) ≡ t → IsQuietIn s n
+      go true e =
+          let same = same_is (get_or os k no_occurrence).constraint n e in
+          let clause : nat_lt n (rules_number s) ≡ false = grind (arith, nat_tests) in
+          let passed' : affects (get_or s.entries q.clauses no_entry).lit (constraint_in s n) ≡ false = rw same at passed in
+          let un' : is_affected (drop (q.clauses + 1) s.entries) (constraint_in s n) ≡ false = rw clause at un in
+          still n low (rw clause (pending_passed s q.clauses (constraint_in s n) within passed' un')) refl
+      go false e = h n low un (listed_first n ∙ rw (e, unlisted) refl)
 
 -- all of those listed were
-pub quiet_end : (s : Store) (head examined : ℕ) (os : List Occurrence) (k : ℕ) → length os ≤ k → AreQuietBut s head examined (drop k os) → AreQuiet s head examined
-quiet_end s head examined os k past h = rw (drop_all k os past) at h
+pub quiet_end : (s : Store) (q : Progress) (os : List Occurrence) (k : ℕ) → length os ≤ k → AreQuietBut s q (drop k os) → AreQuiet s q
+quiet_end s q os k past h = rw (drop_all k os past) at h
 
 -- one constraint more was examined
-pub quiet_next : (s : Store) (head examined : ℕ) → AreQuiet s head examined → IsQuietConstraint (values_in s) (constraint_in s examined) → AreQuiet s head (examined + 1)
-quiet_next s head examined h quiet n low un unlisted = go (n == examined) refl
+pub quiet_next : (s : Store) (q : Progress) → AreQuiet s q → IsQuietIn s q.examined → AreQuiet s (past_constraint q)
+quiet_next s q h quiet n low un unlisted = go (n == q.examined) refl
   where
-    go : (t : Bool) → (n == examined) ≡ t → IsQuietConstraint (values_in s) (constraint_in s n)
-    go true e = rw (same_is n examined e) quiet
-    go false e = (let ne = apart_is n examined e in h n (omega arith) un unlisted)
+    go : (t : Bool) → (n == q.examined) ≡ t → IsQuietIn s n
+    go true e = rw (same_is n q.examined e) quiet
+    go false e = (let ne = apart_is n q.examined e in h n (omega arith) un unlisted)
 
 -- nothing is pending: all are quiet
-quiet_all : (s : Store) (head examined : ℕ) → AreQuiet s head examined → head ≡ length s.entries → examined ≡ length (constraints_in s) → (n : ℕ) → n < length (constraints_in s) → IsQuietConstraint (values_in s) (constraint_in s n)
-quiet_all s head examined h e f n low = h n (omega arith) (rw (drop_all head s.entries (omega arith)) refl) refl
+quiet_all : (s : Store) (q : Progress) → AreQuiet s q → IsDone s q → (n : ℕ) → n < length (constraints_in s) → IsQuietIn s n
+quiet_all s q h done n low = h n (omega (arith, done.examined)) (rw (drop_all (head_of s q n) s.entries (go (nat_lt n (rules_number s)))) refl) refl
+  where
+    go : (t : Bool) → length s.entries ≤ cond t q.rules q.clauses
+    go true = omega (arith, done.rules)
+    go false = omega (arith, done.clauses)
 
-pub all_quiet : (s : Store) (head examined : ℕ) → AreQuiet s head examined → head ≡ length s.entries → examined ≡ length (constraints_in s) → Each (IsQuietConstraint (values_in s)) (constraints_in s)
-all_quiet s head examined h e f = each_from (IsQuietConstraint (values_in s)) (constraints_in s) no_constraint (quiet_all s head examined h e f)
+pub all_quiet : (s : Store) (q : Progress) → AreQuiet s q → IsDone s q → Each (IsQuietConstraint (values_in s)) (constraints_in s)
+all_quiet s q h done = each_from (IsQuietConstraint (values_in s)) (constraints_in s) no_constraint (quiet_all s q h done)
 
 -- ---- what is known at the lengths of the trail
 
@@ -250,16 +309,16 @@ quiet_at_grow old new es quiet_at h kept is i n low =
     (omega (arith, ap length is, length-append old.entries es, before.0), rw (same, kept.problem, is, take-append-le i old.entries es le) before.1)
 
 -- all are quiet at the present length
-pub quiet_at_set : (s : Store) (quiet_at : List ℕ) (head examined : ℕ) → AreQuietAt s quiet_at → AreQuiet s head examined → head ≡ length s.entries → examined ≡ length (constraints_in s) → head < length quiet_at → AreQuietAt s (slice_set quiet_at head examined)
-quiet_at_set s quiet_at head examined h quiet e f lt i n low = go (i == head) refl
+pub quiet_at_set : (s : Store) (quiet_at : List ℕ) (q : Progress) (place : ℕ) → AreQuietAt s quiet_at → AreQuiet s q → IsDone s q → place ≡ length s.entries → place < length quiet_at → AreQuietAt s (slice_set quiet_at place q.examined)
+quiet_at_set s quiet_at q place h quiet done is lt i n low = go (i == place) refl
   where
-    go : (t : Bool) → (i == head) ≡ t → (i ≤ length s.entries) × IsQuietConstraint (values_of s.problem.atoms (take i s.entries)) (constraint_in s n)
-    go true is =
-        let same = same_is i head is in
-        let low' : n < examined = rw (same, get_or-set_same quiet_at head examined 0 lt) at low in
+    go : (t : Bool) → (i == place) ≡ t → (i ≤ length s.entries) × IsQuietConstraint (values_of s.problem.atoms (take i s.entries)) (constraint_in s n)
+    go true e =
+        let same = same_is i place e in
+        let low' : n < q.examined = rw (same, get_or-set_same quiet_at place q.examined 0 lt) at low in
         let whole : take i s.entries ≡ s.entries = take_all i s.entries (omega arith) in
-        (omega arith, rw whole (quiet_all s head examined quiet e f n (omega arith)))
-    go false is = h i n (rw (get_or-set_other quiet_at head i examined 0 (apart_is i head is)) at low)
+        (omega arith, rw whole (quiet_all s q quiet done n (omega (arith, done.examined))))
+    go false e = h i n (rw (get_or-set_other quiet_at place i q.examined 0 (apart_is i place e)) at low)
 
 pub quiet_at_below : (quiet_at : List ℕ) (head examined most : ℕ) → ((i : ℕ) → counter quiet_at i ≤ most) → examined ≤ most → head < length quiet_at → (i : ℕ) → counter (slice_set quiet_at head examined) i ≤ most
 quiet_at_below quiet_at head examined most h le lt i = go (i == head) refl
@@ -292,10 +351,15 @@ forgotten (x ∷ xs) (suc k) zero = omega arith
 forgotten (x ∷ xs) (suc k) (suc i) = forgotten xs k i
 
 -- from a length on at which constraints are known to be quiet, only later entries are pending
-pub quiet_from : (s : Store) (quiet_at : List ℕ) (head : ℕ) → HasCausedTrail s → AreQuietAt s quiet_at → AreQuiet s head (counter quiet_at head)
+pub quiet_from : (s : Store) (quiet_at : List ℕ) (head : ℕ) → HasCausedTrail s → AreQuietAt s quiet_at → AreQuiet s (record { rules = head; clauses = head; examined = counter quiet_at head })
 quiet_from s quiet_at head caused h n low un unlisted =
     let before = h head n low in
     let whole : take head s.entries ++ drop head s.entries ≡ s.entries = take-append-drop head s.entries in
     let after : extended (values_of s.problem.atoms (take head s.entries)) (drop head s.entries) ≡ values_in s = sym (extended_append (replicate s.problem.atoms None) (take head s.entries) (drop head s.entries)) ∙ ap (values_of s.problem.atoms) whole in
     let free = free_rest s.problem s.clauses (take head s.entries) (drop head s.entries) (replicate s.problem.atoms None) (rw whole caused) in
-    rw (← after) (quiet_extended (drop head s.entries) (values_of s.problem.atoms (take head s.entries)) (constraint_in s n) free un before.1)
+    let un' : is_affected (drop head s.entries) (constraint_in s n) ≡ false = go (nat_lt n (rules_number s)) un in
+    rw (← after) (quiet_extended (drop head s.entries) (values_of s.problem.atoms (take head s.entries)) (constraint_in s n) free un' before.1)
+  where
+    go : (t : Bool) → is_affected (drop (cond t head head) s.entries) (constraint_in s n) ≡ false → is_affected (drop head s.entries) (constraint_in s n) ≡ false
+    go true e = e
+    go false e = e

@@ -77,7 +77,7 @@ module _ (problem : Problem) (clauses : List Clause) (es : List Entry) (lists : 
       let after = falses_after (values_of problem.atoms es) l.atom.0 l.positive inside (known_free (values_of problem.atoms es) l.atom.0 free) (constraint_at problem clauses n).lits in
       omega (arith, after, listed.numbers (not l.positive) n l.atom.0)
 
-module _ (problem : Problem) (clauses : List Clause) (atoms : ℕ) (es : List Entry) (ts fs : List ℕ) (lists : List OccurrenceList) (h : IsStore problem clauses atoms es ts fs lists) where
+module _ (problem : Problem) (clauses : List Clause) (atoms : ℕ) (es : List Entry) (ts fs : List ℕ) (lists : List OccurrenceList) (splits : List ℕ) (h : IsStore problem clauses atoms es ts fs lists splits) where
   pub below_trues : (a n : ℕ) → n ≡ length ts → AreBelow n (items_at lists a)
   below_trues a n e = rw (e, h.counted.trues_number) (h.listed.below a)
 
@@ -86,7 +86,7 @@ module _ (problem : Problem) (clauses : List Clause) (atoms : ℕ) (es : List En
 
   pub store_set : (e : Entry) (more : ℕ) (after : List Entry) (us gs : List ℕ) → IsFree (values_of problem.atoms es) e.lit → IsCaused problem clauses (values_of problem.atoms es) e.lit e.cause → more ≡ atoms → after ≡ es ++ e ∷ []
       → IsRaised ts us e.lit.positive (items_at lists e.lit.atom.0) → IsRaised fs gs (not e.lit.positive) (items_at lists e.lit.atom.0) → length us ≡ length ts → length gs ≡ length fs
-      → IsStore problem clauses more after us gs lists
+      → IsStore problem clauses more after us gs lists splits
   store_set e more after us gs free due same is up down lu lg =
       let push = extended_append (replicate problem.atoms None) es (e ∷ []) in
       record {
@@ -100,10 +100,11 @@ module _ (problem : Problem) (clauses : List Clause) (atoms : ℕ) (es : List En
           falses_number = lg ∙ h.counted.falses_number;
         };
         listed = h.listed;
+        split = h.split;
         caused = rw is (caused_push problem clauses (replicate problem.atoms None) es e h.caused free due);
       }
 
-module _ (problem : Problem) (clauses : List Clause) (atoms : ℕ) (es before : List Entry) (e : Entry) (ts fs : List ℕ) (lists : List OccurrenceList) (h : IsStore problem clauses atoms before ts fs lists) (is : before ≡ es ++ e ∷ []) where
+module _ (problem : Problem) (clauses : List Clause) (atoms : ℕ) (es before : List Entry) (e : Entry) (ts fs : List ℕ) (lists : List OccurrenceList) (splits : List ℕ) (h : IsStore problem clauses atoms before ts fs lists splits) (is : before ≡ es ++ e ∷ []) where
   pub last_free : AreCaused problem clauses (replicate problem.atoms None) es × IsFree (values_of problem.atoms es) e.lit
   last_free = caused_pop problem clauses (replicate problem.atoms None) es e (rw is at h.caused)
 
@@ -124,7 +125,7 @@ module _ (problem : Problem) (clauses : List Clause) (atoms : ℕ) (es before : 
 
   pub store_pop : (less : ℕ) (us gs : List ℕ) → less ≡ atoms
       → IsRaised us ts e.lit.positive (items_at lists e.lit.atom.0) → IsRaised gs fs (not e.lit.positive) (items_at lists e.lit.atom.0) → length us ≡ length ts → length gs ≡ length fs
-      → IsStore problem clauses less es us gs lists
+      → IsStore problem clauses less es us gs lists splits
   store_pop less us gs same up down lu lg = record {
     atoms_are = same ∙ h.atoms_are;
     shaped = h.shaped;
@@ -136,12 +137,13 @@ module _ (problem : Problem) (clauses : List Clause) (atoms : ℕ) (es before : 
       falses_number = lg ∙ h.counted.falses_number;
     };
     listed = h.listed;
+    split = h.split;
     caused = last_free.0;
   }
 
 -- ---- counters of one constraint
 
-module _ (problem : Problem) (clauses : List Clause) (atoms : ℕ) (es : List Entry) (ts fs : List ℕ) (lists : List OccurrenceList) (h : IsStore problem clauses atoms es ts fs lists) (n : ℕ) (lt : n < length (constraints_of problem clauses)) where
+module _ (problem : Problem) (clauses : List Clause) (atoms : ℕ) (es : List Entry) (ts fs : List ℕ) (lists : List OccurrenceList) (splits : List ℕ) (h : IsStore problem clauses atoms es ts fs lists splits) (n : ℕ) (lt : n < length (constraints_of problem clauses)) where
   pub true_count : (t : ℕ) → t ≡ get_or ts n t → t ≡ trues (values_of problem.atoms es) (constraint_at problem clauses n).lits
   true_count t e = e ∙ get_or_default ts n t 0 (omega (arith, h.counted.trues_number)) ∙ h.counted.trues n
 

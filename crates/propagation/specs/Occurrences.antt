@@ -1,6 +1,6 @@
 -- Where atoms occur: for each atom a list of the literals over it, each with its constraint's number;
 -- and counters by constraint, which such a list raises.
-use Rattle.std.specs.Prelude.{◌≡◌, ℕ, ◌+◌, ◌≤◌, ◌<◌, ◌^◌, length, if◌then◌else◌, ◌==◌, ◌&&◌, Bool, false, List, [], count_by, slice_index_or}
+use Rattle.std.specs.Prelude.{◌≡◌, ℕ, ◌+◌, ◌≤◌, ◌<◌, ◌^◌, length, if◌then◌else◌, ◌==◌, ◌&&◌, Bool, false, List, [], ◌++◌, take, drop, count_by, slice_index_or}
 use Rattle.std.specs.List.{list_any, AllByRecursion}
 use Rattle.count_core.specs.declared.lit.Lit.{Lit}
 use Rattle.count_core.specs.declared.count_rule.CountRule.{CountRule}
@@ -47,6 +47,14 @@ is_listed n os = list_any (λ (o : Occurrence). o.constraint == n) os
 abbrev pub AreBelow : ℕ → List Occurrence → Type 0
 AreBelow m os = AllByRecursion (λ (o : Occurrence). o.constraint < m) os
 
+-- Each is of constraint m or a later one.
+abbrev pub AreFrom : ℕ → List Occurrence → Type 0
+AreFrom m os = AllByRecursion (λ (o : Occurrence). m ≤ o.constraint) os
+
+-- Each is of constraint m.
+abbrev pub AreOf : ℕ → List Occurrence → Type 0
+AreOf m os = AllByRecursion (λ (o : Occurrence). o.constraint ≡ m) os
+
 -- ---- counters
 
 abbrev pub counter : List ℕ → ℕ → ℕ
@@ -80,17 +88,33 @@ HasRoomAt lists l = length (items_at lists l.atom.0) < room_at lists l.atom.0
 abbrev pub HaveRoomFor : List OccurrenceList → List Lit → Type 0
 HaveRoomFor lists ls = AllByRecursion (HasRoomAt lists) ls
 
+-- Occurrences of constraint n were added at the end.
+abbrev pub IsAppended : ℕ → List Occurrence → List Occurrence → Type 0
+IsAppended n old new = (os : List Occurrence) × (new ≡ old ++ os) × AreOf n os
+
 -- The literals were entered as those of constraint `number`.
 pub record AreEntered (old new : List OccurrenceList) (number : ℕ) (ls : List Lit) : Type 0 where
   pub numbers : (b : Bool) (n a : ℕ) → number_listed b n (items_at new a)
       ≡ number_listed b n (items_at old a) + number_if (number == n) b a ls
-  pub below : (m a : ℕ) → number < m → AreBelow m (items_at old a) → AreBelow m (items_at new a)
+  pub appended : (a : ℕ) → IsAppended number (items_at old a) (items_at new a)
 
 -- For each of so many atoms the literals of all constraints over it are listed.
 pub record AreListed (atoms : ℕ) (rules : List CountRule) (lists : List OccurrenceList) : Type 0 where
   pub atoms_number : length lists ≡ atoms
   pub numbers : (b : Bool) (n a : ℕ) → number_listed b n (items_at lists a) ≡ number_in b a (nth rules n).lits
   pub below : (a : ℕ) → AreBelow (length rules) (items_at lists a)
+
+-- At each atom the occurrences of the first m constraints stand before the others, so many of them.
+pub record AreSplit (m : ℕ) (splits : List ℕ) (lists : List OccurrenceList) : Type 0 where
+  pub number : length splits ≡ length lists
+  pub within : (a : ℕ) → counter splits a ≤ length (items_at lists a)
+  pub before : (a : ℕ) → AreBelow m (take (counter splits a) (items_at lists a))
+  pub after : (a : ℕ) → AreFrom m (drop (counter splits a) (items_at lists a))
+
+-- Each number is that of the occurrences of an atom.
+pub record AreLengths (lengths : List ℕ) (lists : List OccurrenceList) : Type 0 where
+  pub number : length lengths ≡ length lists
+  pub each : (a : ℕ) → counter lengths a ≡ length (items_at lists a)
 
 -- No counter of the literals of one constraint overflows.
 abbrev pub AreShort : List CountRule → Type 0

@@ -1,18 +1,19 @@
 -- Constraints with a trail, and what each call leaves as it is.
-use Rattle.std.specs.Prelude.{◌≡◌, ℕ, ◌≤◌, ◌<◌, Bool, false, true, List, ◌++◌, length, drop, Option, None, slice_index_or, replicate}
+use Rattle.std.specs.Prelude.{◌≡◌, ℕ, ◌≤◌, ◌<◌, Bool, false, true, List, ◌++◌, length, take, drop, Option, None, slice_index_or, replicate}
 use Rattle.std.specs.List.{AllByRecursion}
 use Rattle.count_core.specs.declared.lit.Lit.{Lit}
 use Rattle.count_core.specs.declared.hint.Hint.{Hint}
 use Rattle.count_core.specs.declared.count_rule.CountRule.{CountRule}
 use Rattle.count_core.specs.Problems.{Problem, are_within, repeats}
 use Rattle.count_core.specs.PartialAssignments.{PartialAssignment, trues, falses, conflicts}
+use Rattle.propagation.specs.declared.occurrence.Occurrence.{Occurrence}
 use Rattle.propagation.specs.declared.clause.Clause.{Clause}
 use Rattle.propagation.specs.Trails.{Entry, values_of}
 use Rattle.propagation.specs.Constraints.{constraints_of, constraint_at, hint_at, nth, IsNamed, IsQuietConstraint}
 use Rattle.propagation.specs.Causes.{IsCaused, AreCaused}
 use Rattle.propagation.specs.Firings.{Firing, AreFirings, entries_fired, entries_setting}
 use Rattle.propagation.specs.Statuses.{IsAtBound}
-use Rattle.propagation.specs.Occurrences.{OccurrenceList, no_occurrence, items_at, counter, AreListed, AreShort}
+use Rattle.propagation.specs.Occurrences.{OccurrenceList, no_occurrence, items_at, counter, AreListed, AreShort, AreSplit}
 
 pub record Store : Type 0 where
   pub problem : Problem
@@ -20,6 +21,7 @@ pub record Store : Type 0 where
   pub entries : List Entry
   pub room : ℕ
   pub lists : List OccurrenceList
+  pub splits : List ℕ
 
 abbrev pub constraints_in : Store → List CountRule
 constraints_in s = constraints_of s.problem s.clauses
@@ -48,6 +50,17 @@ listed_at s a k = (slice_index_or (items_at s.lists a) k no_occurrence).constrai
 abbrev pub constraint_listed : Store → Lit → ℕ → CountRule
 constraint_listed s l k = constraint_in s (listed_at s l.atom.0 k)
 
+-- the number of rules of the problem
+abbrev pub rules_number : Store → ℕ
+rules_number s = length s.problem.rules
+
+-- the atom's occurrences in rules of the problem, and in clauses
+abbrev pub in_rules : Store → ℕ → List Occurrence
+in_rules s a = take (counter s.splits a) (items_at s.lists a)
+
+abbrev pub in_clauses : Store → ℕ → List Occurrence
+in_clauses s a = drop (counter s.splits a) (items_at s.lists a)
+
 -- There is room for an entry of each atom.
 abbrev pub HasRoom : Store → Type 0
 HasRoom s = s.problem.atoms ≤ s.room
@@ -74,6 +87,7 @@ pub record OnlyTrailDiffers (old new : Store) : Type 0 where
   pub problem : new.problem ≡ old.problem
   pub clauses : new.clauses ≡ old.clauses
   pub lists : new.lists ≡ old.lists
+  pub splits : new.splits ≡ old.splits
   pub room : old.room ≤ new.room
 
 -- The trail grew by the entries of constraints that forced one after the other.
@@ -114,10 +128,11 @@ pub record AreCounted (p : PartialAssignment) (rules : List CountRule) (ts fs : 
   pub trues_number : length ts ≡ length rules
   pub falses_number : length fs ≡ length rules
 
-pub record IsStore (problem : Problem) (clauses : List Clause) (atoms : ℕ) (entries : List Entry) (ts fs : List ℕ) (lists : List OccurrenceList) : Type 0 where
+pub record IsStore (problem : Problem) (clauses : List Clause) (atoms : ℕ) (entries : List Entry) (ts fs : List ℕ) (lists : List OccurrenceList) (splits : List ℕ) : Type 0 where
   pub atoms_are : atoms ≡ problem.atoms
   pub shaped : AllByRecursion (IsShaped problem.atoms) (constraints_of problem clauses)
   pub short : AreShort (constraints_of problem clauses)
   pub counted : AreCounted (values_of problem.atoms entries) (constraints_of problem clauses) ts fs
   pub listed : AreListed problem.atoms (constraints_of problem clauses) lists
+  pub split : AreSplit (length problem.rules) splits lists
   pub caused : AreCaused problem clauses (replicate problem.atoms None) entries

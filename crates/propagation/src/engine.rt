@@ -10,6 +10,7 @@ ghost use Rattle.propagation.specs.Trails.{IsCauseOf, SetsAsMany, lits_of, with_
 
 use crate::found::Found;
 use crate::mark::Mark;
+use crate::progress::Progress;
 use crate::queue::{last_quiet, run, unwind};
 use crate::store::Store;
 use count_core::{Hint, Lit, NoMemory, SharedProblem};
@@ -20,14 +21,12 @@ use std::marker::Model;
 /// see a record of the problem, the clauses that were added, the entries of the trail, and for how
 /// many entries there is room.
 ///
-/// `head` is the first entry whose occurrences may not all have been examined, and `examined` is
-/// how many of the first constraints were examined at all. `quiet_at` has, for each length of the
-/// trail, how many of the first constraints are known to be quiet there, or 0.
+/// `quiet_at` has, for each length of the trail, how many of the first constraints are known to be
+/// quiet there, or 0.
 #[derive(Drop)]
 pub struct Engine {
     store: Store,
-    head: usize,
-    examined: usize,
+    progress: Progress,
     quiet_at: Vec<usize>,
 }
 
@@ -44,7 +43,7 @@ impl Model for Engine {
       room = e.store.room;
     } };
 
-    ghost invariant = { λ e. IsEngine e.store e.head e.examined e.quiet_at.items };
+    ghost invariant = { λ e. IsEngine e.store e.progress e.quiet_at.items };
 }
 
 impl Engine {
@@ -59,8 +58,11 @@ impl Engine {
         let quiet_at: Vec<usize> = vec![in alloc; 0; atoms + 1]?;
         Ok(Engine {
             store,
-            head: 0,
-            examined: 0,
+            progress: Progress {
+                rules: 0,
+                clauses: 0,
+                examined: 0,
+            },
             quiet_at,
         })
     }
@@ -103,12 +105,12 @@ impl Engine {
         ensures sound { IsSound self.new }
         ensures kept { OnlyTrailDiffers self.old self.new }
     {
-        let found = run(&mut self.store, &mut self.head, &mut self.examined);
+        let found = run(&mut self.store, &mut self.progress);
         let length = self.store.len();
         match found {
             Some(cause) => Found::Conflict { cause },
             None => {
-                self.quiet_at[length] = self.examined;
+                self.quiet_at[length] = self.progress.examined;
                 Found::Quiet
             }
         }
@@ -154,8 +156,12 @@ impl Engine {
     {
         let left = mark.0 as usize;
         unwind(&mut self.store, &mut self.quiet_at, left);
-        self.head = last_quiet(&self.quiet_at, left);
-        self.examined = self.quiet_at[self.head];
+        let place = last_quiet(&self.quiet_at, left);
+        self.progress = Progress {
+            rules: place,
+            clauses: place,
+            examined: self.quiet_at[place],
+        };
     }
 
     /// The cause of a literal that is set true and was not assumed; none for any other literal.

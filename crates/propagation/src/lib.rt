@@ -20,6 +20,7 @@ mod listing;
 mod mark;
 mod occurrence;
 mod occurrence_list;
+mod progress;
 mod queue;
 mod status;
 mod store;

@@ -2,7 +2,7 @@ ghost use Rattle.std.specs.Prelude.{◌≡◌, ◌<◌, ℕ, [], length, true, f
 ghost use Rattle.std.specs.List.{AllByRecursion};
 ghost use Rattle.count_core.specs.Limits.{number_limit};
 ghost use Rattle.count_core.specs.Problems.{IsWellFormedRule, are_within, repeats};
-ghost use Rattle.propagation.specs.Occurrences.{AreEntered, AreListed, HaveRoomFor, HaveSameItems, IsEmptyAt, AreShort};
+ghost use Rattle.propagation.specs.Occurrences.{AreEntered, AreLengths, AreListed, HaveRoomFor, HaveSameItems, IsEmptyAt, AreShort};
 
 use crate::occurrence::Occurrence;
 use crate::occurrence_list::OccurrenceList;
@@ -19,6 +19,17 @@ pub(crate) fn empty_lists(alloc: Global, atoms: usize) -> Result<Vec<OccurrenceL
         lists.push(OccurrenceList::empty(alloc))?;
     }
     Ok(lists)
+}
+
+/// The number of occurrences of each atom.
+pub(crate) fn lengths_of(alloc: Global, lists: &[OccurrenceList]) -> Result<Vec<usize>, NoMemory>
+    ensures { IfOk result (λ v. AreLengths v.items lists.now) }
+{
+    let mut lengths = Vec::with_capacity(alloc, lists.len())?;
+    for atom in 0..lists.len() {
+        lengths.push(lists[atom].as_slice().len())?;
+    }
+    Ok(lengths)
 }
 
 /// Makes room for one occurrence more at the atom of each literal.

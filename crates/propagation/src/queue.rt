@@ -1,27 +1,56 @@
 ghost use Rattle.std.specs.Prelude.{◌≡◌, ◌+◌, ◌≤◌, ◌<◌, length, take, IfNone, IfSome};
-ghost use Rattle.propagation.specs.Queues.{AreQuietAt, AreQuiet, IsNoGreater};
-ghost use Rattle.propagation.specs.Stores.{Grows, HasCausedTrail, HasRoom, IsConflict, OnlyTrailDiffers, constraints_in};
+ghost use Rattle.propagation.specs.Queues.{AreQuiet, AreQuietAt, IsDone, IsNoGreater, IsWithin, past_clauses, past_rules};
+ghost use Rattle.propagation.specs.Stores.{Grows, HasCausedTrail, HasRoom, IsConflict, OnlyTrailDiffers};
 
 use crate::forcing::examine;
+use crate::progress::Progress;
 use crate::store::Store;
 use count_core::Hint;
 
-/// Examines each constraint that the entry at `head` may affect, until one conflicts, and answers
-/// the hint of that one.
-fn visit(store: &mut Store, head: usize, examined: usize) -> Option<Hint>
-    requires head { head < length store.old.entries }
-    requires quiet { AreQuiet store.old head examined }
+/// Examines each rule of the problem that the first entry not visited for rules may affect, until
+/// one conflicts, and answers the hint of that one.
+fn visit_rules(store: &mut Store, progress: Progress) -> Option<Hint>
+    requires entry { progress.rules < length store.old.entries }
+    requires within { IsWithin store.old progress }
+    requires quiet { AreQuiet store.old progress }
     requires room { HasRoom store.old }
     ensures conflict { IfSome result (λ h. IsConflict store.new h) }
-    ensures next { IfNone result (AreQuiet store.new (head + 1) examined) }
-    ensures quiet { AreQuiet store.new head examined }
+    ensures next { IfNone result (AreQuiet store.new (past_rules progress)) }
+    ensures quiet { AreQuiet store.new progress }
     ensures grows { Grows store.old store.new }
     ensures kept { OnlyTrailDiffers store.old store.new }
 {
-    let lit = store.lit_at(head);
-    let count = store.occurrence_count(lit.atom);
+    let lit = store.lit_at(progress.rules);
+    let count = store.rule_occurrence_count(lit.atom);
     for place in 0..count {
-        let Some(number) = store.affected(lit, place) else {
+        let number = store.constraint_of_occurrence(lit.atom, place);
+        let found = examine(store, number);
+        let _length = store.len();
+        if let Some(hint) = found {
+            return Some(hint);
+        }
+    }
+    None
+}
+
+/// Examines each clause that the first entry not visited for clauses may affect, until one
+/// conflicts, and answers the hint of that one.
+fn visit_clauses(store: &mut Store, progress: Progress) -> Option<Hint>
+    requires entry { progress.clauses < length store.old.entries }
+    requires within { IsWithin store.old progress }
+    requires quiet { AreQuiet store.old progress }
+    requires room { HasRoom store.old }
+    ensures conflict { IfSome result (λ h. IsConflict store.new h) }
+    ensures next { IfNone result (AreQuiet store.new (past_clauses progress)) }
+    ensures quiet { AreQuiet store.new progress }
+    ensures grows { Grows store.old store.new }
+    ensures kept { OnlyTrailDiffers store.old store.new }
+{
+    let lit = store.lit_at(progress.clauses);
+    let first = store.rule_occurrence_count(lit.atom);
+    let count = store.occurrence_count(lit.atom);
+    for place in first..count {
+        let Some(number) = store.affected_clause(lit, place) else {
             continue;
         };
         let found = examine(store, number);
@@ -33,35 +62,38 @@ fn visit(store: &mut Store, head: usize, examined: usize) -> Option<Hint>
     None
 }
 
-/// Examines all that may not be quiet: what an entry from `head` on may affect, and the constraints
-/// from `examined` on. Ends where nothing is left, or with the hint of a constraint that conflicts.
-pub(crate) fn run(store: &mut Store, head: &mut usize, examined: &mut usize) -> Option<Hint>
-    requires head { head.old ≤ length store.old.entries }
-    requires examined { examined.old ≤ length (constraints_in store.old) }
-    requires quiet { AreQuiet store.old head.old examined.old }
+/// Examines all that may not be quiet, clauses only where no rule is pending, until nothing is left
+/// or a constraint conflicts, whose hint it answers.
+pub(crate) fn run(store: &mut Store, progress: &mut Progress) -> Option<Hint>
+    requires within { IsWithin store.old progress.old }
+    requires quiet { AreQuiet store.old progress.old }
     requires room { HasRoom store.old }
     ensures conflict { IfSome result (λ h. IsConflict store.new h) }
-    ensures last_head { IfNone result (head.new ≡ length store.new.entries) }
-    ensures all_examined { IfNone result (examined.new ≡ length (constraints_in store.new)) }
-    ensures head { head.new ≤ length store.new.entries }
-    ensures examined { examined.new ≤ length (constraints_in store.new) }
-    ensures quiet { AreQuiet store.new head.new examined.new }
+    ensures done { IfNone result (IsDone store.new progress.new) }
+    ensures within { IsWithin store.new progress.new }
+    ensures quiet { AreQuiet store.new progress.new }
     ensures grows { Grows store.old store.new }
     ensures kept { OnlyTrailDiffers store.old store.new }
 {
+    let rules = store.rule_count();
     loop {
-        if *head < store.len() {
-            if let Some(hint) = visit(store, *head, *examined) {
+        if progress.rules < store.len() {
+            if let Some(hint) = visit_rules(store, *progress) {
                 return Some(hint);
             }
-            *head += 1;
-        } else if *examined < store.constraint_count() {
-            let found = examine(store, *examined);
+            progress.rules += 1;
+        } else if progress.clauses < store.len() && progress.examined >= rules {
+            if let Some(hint) = visit_clauses(store, *progress) {
+                return Some(hint);
+            }
+            progress.clauses += 1;
+        } else if progress.examined < store.constraint_count() {
+            let found = examine(store, progress.examined);
             let _length = store.len();
             if let Some(hint) = found {
                 return Some(hint);
             }
-            *examined += 1;
+            progress.examined += 1;
         } else {
             return None;
         }

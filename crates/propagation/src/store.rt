@@ -3,17 +3,17 @@ ghost use Rattle.std.specs.Arc.{arc_value};
 ghost use Rattle.count_core.specs.PartialAssignments.{is_true, value_at};
 ghost use Rattle.count_core.specs.Problems.{IsWellFormed, are_within, repeats};
 ghost use Rattle.propagation.specs.Constraints.{IsNamed, with_clause};
-ghost use Rattle.propagation.specs.Occurrences.{AreListed, AreShort, items_at};
-ghost use Rattle.propagation.specs.Queues.{affects, HasNone};
+ghost use Rattle.propagation.specs.Occurrences.{AreListed, AreShort, counter, items_at};
+ghost use Rattle.propagation.specs.Queues.{HaveNoClauses, HaveNoRules, affects};
 ghost use Rattle.propagation.specs.Statuses.{HasStatus};
-ghost use Rattle.propagation.specs.Stores.{HasRoom, HasCausedTrail, IsCausedIn, IsShaped, OnlyTrailDiffers, constraint_in, constraint_listed, constraints_in, entry_in, hint_in, listed_at, values_in};
+ghost use Rattle.propagation.specs.Stores.{HasRoom, HasCausedTrail, IsCausedIn, IsShaped, OnlyTrailDiffers, constraint_in, constraint_listed, constraints_in, entry_in, hint_in, listed_at, rules_number, values_in};
 ghost use Rattle.propagation.specs.Trails.{Entry, IsCauseOf, IsFree, SetsAsMany, lits_of, with_entry};
 ghost use Rattle.propagation.specs.Views.{rule_in};
 
 use crate::clause::Clause;
 use crate::constraint::{Constraint, find};
 use crate::counters::{Counts, count_in, count_out, counts_of, under_sign};
-use crate::listing::{empty_lists, enter, enter_rules, reserve_for};
+use crate::listing::{empty_lists, enter, enter_rules, lengths_of, reserve_for};
 use crate::occurrence_list::OccurrenceList;
 use crate::status::{Status, status_of};
 use crate::trail::Trail;
@@ -22,8 +22,8 @@ use std::alloc::{AllocError, Global};
 use std::marker::Model;
 
 /// The constraints, which are the problem's rules and the added clauses, and a trail. The true and
-/// the false literals of each constraint are counted, and each atom's occurrences are listed.
-/// Contracts see a record.
+/// the false literals of each constraint are counted, and each atom's occurrences are listed, those
+/// in rules before those in clauses. Contracts see a record.
 #[derive(Drop)]
 pub(crate) struct Store {
     problem: SharedProblem,
@@ -32,6 +32,7 @@ pub(crate) struct Store {
     trues: Vec<usize>,
     falses: Vec<usize>,
     lists: Vec<OccurrenceList>,
+    splits: Vec<usize>,
 }
 
 impl Model for Store {
@@ -46,10 +47,11 @@ impl Model for Store {
       entries = s.trail.entries;
       room = s.trail.room;
       lists = s.lists.items;
+      splits = s.splits.items;
     } };
 
     ghost invariant = { λ s. spec.IsStore (arc_value s.problem) s.clauses.items s.trail.atoms
-        s.trail.entries s.trues.items s.falses.items s.lists.items };
+        s.trail.entries s.trues.items s.falses.items s.lists.items s.splits.items };
 }
 
 impl Store {
@@ -61,6 +63,7 @@ impl Store {
     {
         let number = problem.rules().len();
         let lists = lists_of(alloc, &problem)?;
+        let splits = lengths_of(alloc, &lists)?;
         let trail = Trail::new(alloc, problem.atoms())?;
         let trues: Vec<usize> = vec![in alloc; 0; number]?;
         let falses: Vec<usize> = vec![in alloc; 0; number]?;
@@ -71,6 +74,7 @@ impl Store {
             trues,
             falses,
             lists,
+            splits,
         })
     }
 
@@ -140,6 +144,13 @@ impl Store {
         self.trail.len()
     }
 
+    /// The number of rules of the problem.
+    pub(crate) fn rule_count(&self) -> usize
+        ensures { result ≡ rules_number self.now }
+    {
+        self.problem.rules().len()
+    }
+
     /// The number of constraints.
     pub(crate) fn constraint_count(&self) -> usize
         ensures { result ≡ length (constraints_in self.now) }
@@ -180,30 +191,51 @@ impl Store {
         self.trail.lits()[place]
     }
 
-    /// The number of occurrences of the atom.
+    /// The number of the atom's occurrences in rules of the problem, which come first.
+    pub(crate) fn rule_occurrence_count(&self, atom: Atom) -> usize
+        requires { atom.0 < self.now.problem.atoms }
+        ensures number { result ≡ counter self.now.splits atom.0 }
+        ensures within { result ≤ length (items_at self.now.lists atom.0) }
+        ensures others { HaveNoRules self.now atom.0 }
+    {
+        self.splits[atom.0 as usize]
+    }
+
+    /// The number of all occurrences of the atom.
     pub(crate) fn occurrence_count(&self, atom: Atom) -> usize
         requires { atom.0 < self.now.problem.atoms }
         ensures number { result ≡ length (items_at self.now.lists atom.0) }
-        ensures others { (n : ℕ) → HasNone self.now atom.0 n }
+        ensures others { HaveNoClauses self.now atom.0 }
     {
         self.lists[atom.0 as usize].as_slice().len()
     }
 
-    /// The number of the constraint at this place of the occurrences of a set literal's atom. None
-    /// where it is a clause in which the literal is true, which need not be examined.
-    pub(crate) fn affected(&self, lit: Lit, place: usize) -> Option<usize>
+    /// The number of the constraint at this place of the atom's occurrences.
+    pub(crate) fn constraint_of_occurrence(&self, atom: Atom, place: usize) -> usize
+        requires atom { atom.0 < self.now.problem.atoms }
+        requires place { place < length (items_at self.now.lists atom.0) }
+        ensures number { result ≡ listed_at self.now atom.0 place }
+        ensures within { result < length (constraints_in self.now) }
+    {
+        self.lists[atom.0 as usize].as_slice()[place].constraint as usize
+    }
+
+    /// The number of the clause at this place of the occurrences of a set literal's atom, past those
+    /// in rules. None where the literal is true in it, so that it need not be examined.
+    pub(crate) fn affected_clause(&self, lit: Lit, place: usize) -> Option<usize>
         requires atom { lit.atom.0 < self.now.problem.atoms }
+        requires clause { counter self.now.splits lit.atom.0 ≤ place }
         requires place { place < length (items_at self.now.lists lit.atom.0) }
         ensures number { IfSome result (λ n. n ≡ listed_at self.now lit.atom.0 place) }
         ensures within { IfSome result (λ n. n < length (constraints_in self.now)) }
+        ensures clause { rules_number self.now ≤ listed_at self.now lit.atom.0 place }
         ensures none { IfNone result (affects lit (constraint_listed self.now lit place) ≡ false) }
     {
         let occurrence = self.lists[lit.atom.0 as usize].as_slice()[place];
-        let number = occurrence.constraint as usize;
-        if number >= self.problem.rules().len() && under_sign(occurrence.positive, lit.positive) {
+        if under_sign(occurrence.positive, lit.positive) {
             return None;
         }
-        Some(number)
+        Some(occurrence.constraint as usize)
     }
 
     /// Sets a literal whose atom is unset.

@@ -1,8 +1,10 @@
-use Rattle.std.proofs.Common.{refl, ◌<◌, length, get_or, arith}
+use Rattle.std.proofs.Common.{refl, sym, [], ◌<◌, length, get_or, arith}
 use Rattle.std.specs.Prelude.{◌==◌}
+use Rattle.std.proofs.lemmas.List.{append-nil}
 use Rattle.count_core.proofs.Marks.{within_at}
 use Rattle.propagation.specs.Stores.{no_entry}
-use Rattle.propagation.proofs.Lists.{enter_numbers, enter_distinct, enter_room, pushed_below, number_past}
+use Rattle.propagation.specs.Occurrences.{items_at}
+use Rattle.propagation.proofs.Lists.{enter_numbers, enter_distinct, enter_room, pushed_appended, number_past}
 use Rattle.propagation.proofs.listing.enter.Goals as goal
 
 pub loop-lit-preserved : goal.loop-lit-preserved
@@ -14,11 +16,19 @@ loop-lit-preserved c =
       numbers = enter_numbers c.loop-lit.lists c.args.lists.now c.args.lits.now c.loop-lit.lit-index c.args.number no_entry.lit c.push.new.self (get_or c.loop-lit.lists k c.index-lists-lit.result) c.index-lists-lit.result low lt refl c.push.ensures.items c.loop-lit.invariant.numbers;
       distinct = enter_distinct c.loop-lit.lists c.args.lists.now c.args.lits.now c.loop-lit.lit-index c.args.number no_entry.lit c.push.new.self (get_or c.loop-lit.lists k c.index-lists-lit.result) c.index-lists-lit.result low lt refl c.push.ensures.items c.loop-lit.invariant.distinct;
       room = enter_room c.loop-lit.lists c.args.lists.now c.args.lits.now c.loop-lit.lit-index c.args.number no_entry.lit c.push.new.self (get_or c.loop-lit.lists k c.index-lists-lit.result) c.index-lists-lit.result low lt refl c.push.ensures.items c.loop-lit.invariant.distinct c.loop-lit.invariant.room;
-      below = λ m a few h. pushed_below c.loop-lit.lists k c.push.new.self (get_or c.loop-lit.lists k c.index-lists-lit.result) c.index-lists-lit.result lt refl (record { constraint = c.args.number; positive = (get_or c.args.lits.now c.loop-lit.lit-index no_entry.lit).positive }) c.push.ensures.items m a few (c.loop-lit.invariant.below m a few h);
+      appended = λ a. pushed_appended c.loop-lit.lists k c.push.new.self (get_or c.loop-lit.lists k c.index-lists-lit.result) c.index-lists-lit.result lt refl (record { constraint = c.args.number; positive = (get_or c.args.lits.now c.loop-lit.lit-index no_entry.lit).positive }) c.push.ensures.items c.args.number (items_at c.args.lists.now a) a refl (c.loop-lit.invariant.appended a);
     }
 
 pub returns : goal.returns
 returns c = record {
   numbers = λ b n a. (let e = c.loop-lit.invariant.numbers b n a in let f = number_past (c.args.number == n) b a c.args.lits.now c.loop-lit.lit-index (omega arith) in omega (arith, e, f));
-  below = c.loop-lit.invariant.below;
+  appended = c.loop-lit.invariant.appended;
+}
+
+pub loop-lit-init : goal.loop-lit-init
+loop-lit-init c = record {
+  numbers = λ b n a. refl;
+  distinct = c.requires.distinct;
+  room = c.requires.room;
+  appended = λ a. ([], sym (append-nil (items_at c.args.lists.now a)), tt);
 }

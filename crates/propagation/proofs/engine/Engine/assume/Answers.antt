@@ -12,4 +12,4 @@ set-requires-clause-free c =
     free_where c.self.inside.store.problem.atoms c.self.inside.store.entries c.args.lit low none
 
 pub invariant_of-self : goal.invariant_of-self
-invariant_of-self c = engine_grow c.self.inside.store c.set.new.self (record { lit = c.args.lit; cause = None } ∷ []) c.self.inside.head c.self.inside.examined c.self.inside.quiet_at.items c.len-length.ensures.caused c.self.invariant c.set.ensures.kept c.set.ensures.entries
+invariant_of-self c = engine_grow c.self.inside.store c.set.new.self (record { lit = c.args.lit; cause = None } ∷ []) c.self.inside.progress c.self.inside.quiet_at.items c.len-length.ensures.caused c.self.invariant c.set.ensures.kept c.set.ensures.entries

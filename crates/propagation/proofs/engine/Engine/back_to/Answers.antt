@@ -15,7 +15,7 @@ invariant_of-self c =
     let len : length c.unwind.new.quiet_at ≡ length c.self.inside.quiet_at.items = c.unwind.auto.quiet_at ∙ ap length c.deref_mut.ensures.value in
     let back = returned c.self.inside.quiet_at.items c.unwind.new.quiet_at c.self.inside.quiet_at.len number len in
     let less = rw c.deref_mut.ensures.value at c.unwind.ensures.less in
-    let low : c.last_quiet-self-inside.result ≤ c.args.mark.0 = c.last_quiet-self-inside.ensures in
-    let within : c.last_quiet-self-inside.result < length c.unwind.new.quiet_at = omega (arith, low, len, c.self.invariant.lengths, c.unwind.ensures.few, ap (λ (p : Problem). p.atoms) c.unwind.ensures.kept.problem) in
-    let examined : c.index.result.now ≡ get_or c.unwind.new.quiet_at c.last_quiet-self-inside.result 0 = rw back at c.index.ensures ∙ get_or_default c.unwind.new.quiet_at c.last_quiet-self-inside.result c.index.result.now 0 within in
-    rw (back, examined) (engine_back c.self.inside.store c.unwind.new.store c.self.inside.head c.self.inside.examined c.args.mark.0 c.last_quiet-self-inside.result c.self.inside.quiet_at.items c.unwind.new.quiet_at c.unwind.ensures.caused c.self.invariant c.unwind.ensures.kept c.unwind.ensures.entries left low c.unwind.ensures.quiet_at len less)
+    let low : c.last_quiet-place.result ≤ c.args.mark.0 = c.last_quiet-place.ensures in
+    let within : c.last_quiet-place.result < length c.unwind.new.quiet_at = omega (arith, low, len, c.self.invariant.lengths, c.unwind.ensures.few, ap (λ (p : Problem). p.atoms) c.unwind.ensures.kept.problem) in
+    let examined : c.index.result.now ≡ get_or c.unwind.new.quiet_at c.last_quiet-place.result 0 = rw back at c.index.ensures ∙ get_or_default c.unwind.new.quiet_at c.last_quiet-place.result c.index.result.now 0 within in
+    rw (back, examined) (engine_back c.self.inside.store c.unwind.new.store c.self.inside.progress c.args.mark.0 c.last_quiet-place.result c.self.inside.quiet_at.items c.unwind.new.quiet_at c.unwind.ensures.caused c.self.invariant c.unwind.ensures.kept c.unwind.ensures.entries left low c.unwind.ensures.quiet_at len less)

@@ -11,7 +11,7 @@ invariant_of-self-in_err-reserve_for c =
     let number : c.self.inside.lists.len ≡ length c.self.inside.lists.items = omega (arith, c.self.inside.lists.ok.0) in
     let len : length c.reserve_for.new.lists ≡ length c.self.inside.lists.items = c.reserve_for.auto.lists ∙ ap length value in
     let same = rw value at c.reserve_for.ensures.items in
-    rw (returned c.self.inside.lists.items c.reserve_for.new.lists c.self.inside.lists.len number len) (store_room (arc_value c.self.inside.problem) c.self.inside.clauses.items c.self.inside.trail.atoms c.self.inside.trail.entries c.self.inside.trues.items c.self.inside.falses.items c.self.inside.lists.items c.self.invariant c.reserve.new.self.items c.reserve-2.new.self.items c.reserve-3.new.self.items c.reserve_for.new.lists c.reserve.ensures.items c.reserve-2.ensures.items c.reserve-3.ensures.items same len)
+    rw (returned c.self.inside.lists.items c.reserve_for.new.lists c.self.inside.lists.len number len) (store_room (arc_value c.self.inside.problem) c.self.inside.clauses.items c.self.inside.trail.atoms c.self.inside.trail.entries c.self.inside.trues.items c.self.inside.falses.items c.self.inside.lists.items c.self.inside.splits.items c.self.invariant c.reserve.new.self.items c.reserve-2.new.self.items c.reserve-3.new.self.items c.reserve_for.new.lists c.reserve.ensures.items c.reserve-2.ensures.items c.reserve-3.ensures.items same len)
 
 pub invariant_of-self-2 : goal.invariant_of-self-2
 invariant_of-self-2 c =
@@ -34,6 +34,6 @@ invariant_of-self-2 c =
     let ts = rw c.values.ensures.values at c.counts_of-trues.ensures.trues in
     let fs = rw c.values.ensures.values at c.counts_of-trues.ensures.falses in
     rw (back, returned c.reserve_for.new.lists c.enter.new.lists c.self.inside.lists.len number2 len2)
-    (store_add (arc_value c.self.inside.problem) c.self.inside.clauses.items c.self.inside.trail.atoms c.self.inside.trail.entries c.self.inside.trues.items c.self.inside.falses.items c.self.inside.lists.items c.self.invariant
+    (store_add (arc_value c.self.inside.problem) c.self.inside.clauses.items c.self.inside.trail.atoms c.self.inside.trail.entries c.self.inside.trues.items c.self.inside.falses.items c.self.inside.lists.items c.self.inside.splits.items c.self.invariant
     clause c.counts_of-trues.result.trues c.counts_of-trues.result.falses c.in-Ok.number c.push.new.self.items c.push-2.new.self.items c.push-3.new.self.items c.reserve_for.new.lists c.enter.new.lists
-    within c.requires.distinct few number3 ts fs cs us gs same (len2 ∙ len) (rw value2 at c.enter.ensures))
+    within c.requires.distinct few number3 ts fs cs us gs same len (len2 ∙ len) (rw value2 at c.enter.ensures))

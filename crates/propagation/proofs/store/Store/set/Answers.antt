@@ -14,13 +14,13 @@ pub count_in-requires-clause-within_trues : goal.count_in-requires-clause-within
 count_in-requires-clause-within_trues c =
     let free = rw (← c.self.view_is) at c.requires.free in
     let read = items_read c.self.inside.lists.items c.args.lit.atom.0 c.index.result.now c.as_slice.result.now c.as_slice.ensures c.index.ensures (free_listed (arc_value c.self.inside.problem) c.self.inside.clauses.items c.self.inside.trail.entries c.self.inside.lists.items c.args.lit c.self.invariant.listed free) in
-    rw read (below_trues _ _ _ _ _ _ _ c.self.invariant c.args.lit.atom.0 (length c.deref_mut.result.now) (ap length c.deref_mut.ensures.value))
+    rw read (below_trues _ _ _ _ _ _ _ _ c.self.invariant c.args.lit.atom.0 (length c.deref_mut.result.now) (ap length c.deref_mut.ensures.value))
 
 pub count_in-requires-clause-within_falses : goal.count_in-requires-clause-within_falses
 count_in-requires-clause-within_falses c =
     let free = rw (← c.self.view_is) at c.requires.free in
     let read = items_read c.self.inside.lists.items c.args.lit.atom.0 c.index.result.now c.as_slice.result.now c.as_slice.ensures c.index.ensures (free_listed (arc_value c.self.inside.problem) c.self.inside.clauses.items c.self.inside.trail.entries c.self.inside.lists.items c.args.lit c.self.invariant.listed free) in
-    rw read (below_falses _ _ _ _ _ _ _ c.self.invariant c.args.lit.atom.0 (length c.deref_mut-2.result.now) (ap length c.deref_mut-2.ensures.value))
+    rw read (below_falses _ _ _ _ _ _ _ _ c.self.invariant c.args.lit.atom.0 (length c.deref_mut-2.result.now) (ap length c.deref_mut-2.ensures.value))
 
 pub invariant_of-self : goal.invariant_of-self
 invariant_of-self c =
@@ -34,4 +34,4 @@ invariant_of-self c =
     let up : IsRaised c.self.inside.trues.items c.count_in.new.trues c.args.lit.positive (items_at c.self.inside.lists.items c.args.lit.atom.0) = rw (read, c.deref_mut.ensures.value) at c.count_in.ensures.trues in
     let down : IsRaised c.self.inside.falses.items c.count_in.new.falses (not c.args.lit.positive) (items_at c.self.inside.lists.items c.args.lit.atom.0) = rw (read, c.deref_mut-2.ensures.value) at c.count_in.ensures.falses in
     rw (returned c.self.inside.trues.items c.count_in.new.trues c.self.inside.trues.len nt lt, returned c.self.inside.falses.items c.count_in.new.falses c.self.inside.falses.len nf lf)
-    (store_set _ _ _ _ _ _ _ c.self.invariant (record { lit = c.args.lit; cause = c.args.cause }) c.set.new.self.atoms c.set.new.self.entries c.count_in.new.trues c.count_in.new.falses free caused c.set.ensures.atoms c.set.ensures.entries up down lt lf)
+    (store_set _ _ _ _ _ _ _ _ c.self.invariant (record { lit = c.args.lit; cause = c.args.cause }) c.set.new.self.atoms c.set.new.self.entries c.count_in.new.trues c.count_in.new.falses free caused c.set.ensures.atoms c.set.ensures.entries up down lt lf)
