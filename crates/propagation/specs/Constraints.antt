@@ -34,6 +34,7 @@ IsQuietConstraint p r = IsQuiet p r.lits r.lo r.hi
 
 -- ---- by number
 
+-- what is read past the end
 abbrev pub no_constraint : CountRule
 no_constraint = record { lits = []; lo = 0; hi = 0 }
 

@@ -28,7 +28,7 @@ entries_setting h b p (l ∷ ls) =
 abbrev pub entries_forced : Hint → PartialAssignment → CountRule → List Entry
 entries_forced h p r = entries_setting h (not (trues p r.lits == r.hi)) p r.lits
 
--- A constraint that forced_assignment, and the hint that names it.
+-- A constraint that forced, and the hint that names it.
 pub record Firing : Type 0 where
   pub hint : Hint
   pub rule : CountRule

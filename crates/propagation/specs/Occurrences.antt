@@ -13,6 +13,7 @@ pub record OccurrenceList : Type 0 where
   pub items : List Occurrence
   pub room : ℕ
 
+-- what is read past the end
 abbrev pub no_list : OccurrenceList
 no_list = record { items = []; room = 0 }
 
@@ -57,6 +58,7 @@ AreOf m os = AllByRecursion (λ (o : Occurrence). o.constraint ≡ m) os
 
 -- ---- counters
 
+-- the counter of the constraint with this number, or 0 past the end
 abbrev pub counter : List ℕ → ℕ → ℕ
 counter xs n = slice_index_or xs n 0
 
@@ -74,9 +76,11 @@ CanFall xs b os = (n : ℕ) → number_listed b n os ≤ counter xs n
 
 -- ---- lists of all atoms
 
+-- The atom has no occurrence.
 abbrev pub IsEmptyAt : List OccurrenceList → ℕ → Type 0
 IsEmptyAt lists a = items_at lists a ≡ []
 
+-- Each atom has the same occurrences.
 abbrev pub HaveSameItems : List OccurrenceList → List OccurrenceList → Type 0
 HaveSameItems old new = (a : ℕ) → items_at new a ≡ items_at old a
 

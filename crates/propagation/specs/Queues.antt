@@ -26,13 +26,15 @@ affects m r = falsifies m r.lits || (nat_lt r.hi (length r.lits) && mentions m.a
 abbrev pub is_affected : List Entry → CountRule → Bool
 is_affected es r = list_any (λ (e : Entry). affects e.lit r) es
 
--- the next entry was visited for the rules, or for the clauses; or the next constraint examined
+-- the next entry was visited for the rules
 abbrev pub past_rules : Progress → Progress
 past_rules q = record { rules = q.rules + 1; clauses = q.clauses; examined = q.examined }
 
+-- the next entry was visited for the clauses
 abbrev pub past_clauses : Progress → Progress
 past_clauses q = record { rules = q.rules; clauses = q.clauses + 1; examined = q.examined }
 
+-- the next constraint was examined
 abbrev pub past_constraint : Progress → Progress
 past_constraint q = record { rules = q.rules; clauses = q.clauses; examined = q.examined + 1 }
 
@@ -54,7 +56,7 @@ AreQuietBut s q os =
 abbrev pub AreQuiet : Store → Progress → Type 0
 AreQuiet s q = AreQuietBut s q []
 
--- No entry is visited before it is there, and no constraint examined.
+-- Only entries and constraints that are there were visited and examined.
 pub record IsWithin (s : Store) (q : Progress) : Type 0 where
   pub rules : q.rules ≤ length s.entries
   pub clauses : q.clauses ≤ length s.entries
@@ -72,7 +74,7 @@ HaveNoRules s a =
     (n : ℕ) → n < rules_number s → is_listed n (in_rules s a) ≡ false
     → mentions a (constraint_in s n).lits ≡ false
 
--- Nor has a clause.
+-- A clause that is not listed at the atom has no literal over it.
 abbrev pub HaveNoClauses : Store → ℕ → Type 0
 HaveNoClauses s a =
     (n : ℕ) → rules_number s ≤ n → is_listed n (in_clauses s a) ≡ false
@@ -85,6 +87,7 @@ AreQuietAt s quiet_at =
     → (i ≤ length s.entries)
     × IsQuietConstraint (values_of s.problem.atoms (take i s.entries)) (constraint_in s n)
 
+-- Each counter is no greater than it was.
 abbrev pub IsNoGreater : List ℕ → List ℕ → Type 0
 IsNoGreater new old = (i : ℕ) → counter new i ≤ counter old i
 

@@ -15,6 +15,8 @@ use Rattle.propagation.specs.Firings.{Firing, AreFirings, entries_fired, entries
 use Rattle.propagation.specs.Statuses.{IsAtBound}
 use Rattle.propagation.specs.Occurrences.{OccurrenceList, no_occurrence, items_at, counter, AreListed, AreShort, AreSplit}
 
+-- A problem, the clauses that were added, the entries of the trail, and for how many there is room; the
+-- occurrences by atom, and how many of them are in rules of the problem.
 pub record Store : Type 0 where
   pub problem : Problem
   pub clauses : List Clause
@@ -23,18 +25,23 @@ pub record Store : Type 0 where
   pub lists : List OccurrenceList
   pub splits : List ℕ
 
+-- all that is propagated
 abbrev pub constraints_in : Store → List CountRule
 constraints_in s = constraints_of s.problem s.clauses
 
+-- the constraint with this number
 abbrev pub constraint_in : Store → ℕ → CountRule
 constraint_in s n = constraint_at s.problem s.clauses n
 
+-- the hint that names it
 abbrev pub hint_in : Store → ℕ → Hint
 hint_in s n = hint_at s.problem s.clauses n
 
+-- what is set
 abbrev pub values_in : Store → PartialAssignment
 values_in s = values_of s.problem.atoms s.entries
 
+-- what is read past the end
 abbrev pub no_entry : Entry
 no_entry = record { lit = record { atom = record { 0 = 0 }; positive = false }; cause = None }
 
@@ -128,6 +135,7 @@ pub record AreCounted (p : PartialAssignment) (rules : List CountRule) (ts fs : 
   pub trues_number : length ts ≡ length rules
   pub falses_number : length fs ≡ length rules
 
+-- What holds of the parts of a store.
 pub record IsStore (problem : Problem) (clauses : List Clause) (atoms : ℕ) (entries : List Entry) (ts fs : List ℕ) (lists : List OccurrenceList) (splits : List ℕ) : Type 0 where
   pub atoms_are : atoms ≡ problem.atoms
   pub shaped : AllByRecursion (IsShaped problem.atoms) (constraints_of problem clauses)

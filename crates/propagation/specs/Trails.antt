@@ -17,6 +17,7 @@ pub record Trail : Type 0 where
   pub entries : List Entry
   pub room : ℕ
 
+-- the entries' literals, in order
 abbrev pub lits_of : List Entry → List Lit
 lits_of es = map (λ (e : Entry). e.lit) es
 
@@ -45,6 +46,7 @@ values_of atoms es = extended (replicate atoms None) es
 abbrev pub SetsAsMany : PartialAssignment → List Entry → Type 0
 SetsAsMany p es = length es + unset_number p ≡ length p
 
+-- what is set on a trail
 abbrev pub values_in : Trail → PartialAssignment
 values_in t = values_of t.atoms t.entries
 

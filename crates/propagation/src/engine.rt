@@ -173,8 +173,8 @@ impl Engine {
     }
 
     /// Adds a clause with the number of its step, by which causes name it. It follows from the
-    /// problem, and its literals are over different atoms of it. Where memory is out, nothing is
-    /// added.
+    /// problem, and its literals are over different atoms of it. Where memory is out, or a `u32` does
+    /// not number one constraint more, nothing is added.
     pub fn add_clause(&mut self, alloc: Global, clause: &[Lit], step: u32) -> Result<(), NoMemory>
         requires clause { is_clause self.old.problem clause.now ≡ true }
         requires follows { Follows self.old.problem clause.now }

@@ -87,7 +87,8 @@ impl Store {
         self.trail.reserve()
     }
 
-    /// Adds a clause with the number of its step. Where memory is out, nothing is added.
+    /// Adds a clause with the number of its step. Where memory is out, or a `u32` does not number one
+    /// constraint more, nothing is added.
     pub(crate) fn add_clause(
         &mut self,
         alloc: Global,
