@@ -5,6 +5,8 @@ pub mod LastSteps
 pub mod EarlierSteps
 -- accepted steps put behind others, with shifted hints
 pub mod Shifting
+-- candidate hints that are kept
+pub mod KeptHints
 -- ---- cones
 -- marks of the steps that a step reaches, set from the last step down
 pub mod Marking
