@@ -7,6 +7,11 @@ pub mod EarlierSteps
 pub mod Shifting
 -- candidate hints that are kept
 pub mod KeptHints
+-- ---- sides joined
+-- literals of lists over different atoms, and the clause that joins two sides
+pub mod JoinedLits
+-- the step that joins two sides is accepted
+pub mod JoinedSteps
 -- ---- cones
 -- marks of the steps that a step reaches, set from the last step down
 pub mod Marking
