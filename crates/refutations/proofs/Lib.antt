@@ -7,6 +7,8 @@ pub mod EarlierSteps
 pub mod Shifting
 -- candidate hints that are kept
 pub mod KeptHints
+-- they are there where some candidates lead to a conflict
+pub mod PartLeads
 -- ---- sides joined
 -- literals of lists over different atoms, and the clause that joins two sides
 pub mod JoinedLits

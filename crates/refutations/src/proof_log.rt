@@ -1,6 +1,7 @@
 ghost use Rattle.std.specs.Prelude.{◌≡◌, ◌+◌, ◌<◌, ◌⊎◌, [], ℕ, true, length, take, replicate, option_map, None, IsSome, IfSome, IfNone, IfOk, IfErr, OnOk, OnErr, IsErrOf};
 ghost use Rattle.std.specs.Arc.{arc_value};
 ghost use Rattle.count_core.specs.Limits.{number_limit};
+ghost use Rattle.count_core.specs.Problems.{IsWellFormed};
 ghost use Rattle.count_core.specs.Steps.{step_of, is_clause, AreAccepted, NegatesOnly, failing_hint as hint_that_fails};
 ghost use Rattle.refutations.specs.Derivations as spec;
 ghost use Rattle.refutations.specs.JoinedClauses.{joined_clause as clause_joined};
@@ -133,6 +134,8 @@ impl ProofLog {
             is_clause self.old.problem clause.now ≡ true)) }
         ensures none { IfOk result (λ o. IfNone o (self.new ≡ self.old)) }
         ensures leads { leads.LeadOn self.old clause.now hints.now
+            → IfOk result (λ o. IsSome o) }
+        ensures complete { leads.CanBeAccepted self.old clause.now hints.now
             → IfOk result (λ o. IsSome o) }
         ensures problem { self.new.problem ≡ self.old.problem }
         ensures unchanged { OnErr result (self.new ≡ self.old) }
@@ -329,6 +332,7 @@ fn filter_hints(
     requires clear { assignment.old ≡ replicate (length assignment.old) None }
     ensures kept { IfOk result (λ o. option_map (λ v. v.items) o
         ≡ leads.leading_hints problem.now earlier.now clause.now candidates.now) }
+    ensures formed { IsWellFormed problem.now }
     ensures clear { assignment.new ≡ replicate (length assignment.new) None }
 {
     make_assignment(alloc, assignment, problem.atoms() as usize)?;

@@ -1,7 +1,8 @@
-use Rattle.std.proofs.Common.{◌≡◌, sym, None, Some}
+use Rattle.std.proofs.Common.{◌≡◌, ◌∙◌, sym, ap, None, Some, is_some}
 use Rattle.count_core.proofs.Renumbering.{push_accepted}
 use Rattle.refutations.specs.Leading.{leading_hints}
 use Rattle.refutations.proofs.KeptHints.{kept_step}
+use Rattle.refutations.proofs.PartLeads.{part_kept}
 use Rattle.refutations.proofs.LastSteps.{clause_pushed}
 use Rattle.refutations.proofs.proof_log.ProofLog.add_leading.Goals as goal
 
@@ -10,6 +11,12 @@ returns-in_default-clause-leads c = λ (kept, leads).
     let here : leading_hints c.self.inside.problem.value c.self.inside.steps.items c.args.clause.now c.args.hints.now ≡ Some kept = rw (← c.self.view_is) at leads in
     let none : leading_hints c.self.inside.problem.value c.self.inside.steps.items c.args.clause.now c.args.hints.now ≡ None = sym (rw (c.deref.ensures, c.as_slice.ensures.value, c.in_default.is) at c.in_ok-kept.ensures.kept) in
     cc
+
+pub returns-in_default-clause-complete : goal.returns-in_default-clause-complete
+returns-in_default-clause-complete c = λ (part, among, accepted).
+    let here = part_kept c.self.inside.problem.value c.self.inside.steps.items c.args.clause.now c.args.hints.now part (rw c.deref.ensures at c.in_ok-kept.ensures.formed) among (rw (← c.self.view_is) at accepted) in
+    let none : leading_hints c.self.inside.problem.value c.self.inside.steps.items c.args.clause.now c.args.hints.now ≡ None = sym (rw (c.deref.ensures, c.as_slice.ensures.value, c.in_default.is) at c.in_ok-kept.ensures.kept) in
+    sym (ap is_some none) ∙ here
 
 pub invariant_of-self-2 : goal.invariant_of-self-2
 invariant_of-self-2 c =
