@@ -131,26 +131,26 @@ pub same_not : (x y : Lit) → is_same x y ≡ false → x ≢ y
 same_not x y e q = let yes : is_same x y ≡ true = subst (λ z. is_same x z ≡ true) q (is_itself x) in cc
 
 -- the literal is known
-known_in : (x : Lit) (xs : List Lit) → list_any (is_same x) xs ≡ true → Contains xs x
+pub known_in : (x : Lit) (xs : List Lit) → list_any (λ y. is_same y x) xs ≡ true → Contains xs x
 known_in x [] e = cc
-known_in x (y ∷ xs) e = go (is_same x y) refl e (known_in x xs)
+known_in x (y ∷ xs) e = go (is_same y x) refl e (known_in x xs)
   where
-    go : (t : Bool) → is_same x y ≡ t → (t || list_any (is_same x) xs) ≡ true → (list_any (is_same x) xs ≡ true → Contains xs x) → Contains (y ∷ xs) x
-    go true is e rest = subst (λ z. Contains (y ∷ xs) z) (sym (same_is x y is)) (contains_first y xs)
+    go : (t : Bool) → is_same y x ≡ t → (t || list_any (λ z. is_same z x) xs) ≡ true → (list_any (λ z. is_same z x) xs ≡ true → Contains xs x) → Contains (y ∷ xs) x
+    go true is e rest = subst (λ z. Contains (y ∷ xs) z) (same_is y x is) (contains_first y xs)
     go false is e rest = contains_later y xs x (rest e)
 
-not_known : (x : Lit) (xs : List Lit) → list_any (is_same x) xs ≡ false → Contains xs x → ⊥
-not_known x xs e i = let no = each_gives (λ y. is_same x y ≡ false) xs x (none_pass (is_same x) xs e) i in let yes = is_itself x in cc
+not_known : (x : Lit) (xs : List Lit) → list_any (λ y. is_same y x) xs ≡ false → Contains xs x → ⊥
+not_known x xs e i = let no = each_gives (λ y. is_same y x ≡ false) xs x (none_pass (λ y. is_same y x) xs e) i in let yes = is_itself x in cc
 
 neither_not : (a b : Bool) → (not a && not b) ≡ true → (a ≡ false) × (b ≡ false)
 neither_not true b e = cc
 neither_not false true e = cc
 neither_not false false e = (refl, refl)
 
-other_gives : (out : Lit) (known : List Lit) (x : Lit) → is_other out known x ≡ true → (x ≢ out) × (list_any (is_same x) known ≡ false)
-other_gives out known x e = let parts = neither_not (is_same x out) (list_any (is_same x) known) e in (same_not x out parts.0, parts.1)
+other_gives : (out : Lit) (known : List Lit) (x : Lit) → is_other out known x ≡ true → (x ≢ out) × (list_any (λ y. is_same y x) known ≡ false)
+other_gives out known x e = let parts = neither_not (is_same x out) (list_any (λ y. is_same y x) known) e in (same_not x out parts.0, parts.1)
 
-is_other_by : (out : Lit) (known : List Lit) (x : Lit) → x ≢ out → list_any (is_same x) known ≡ false → is_other out known x ≡ true
+is_other_by : (out : Lit) (known : List Lit) (x : Lit) → x ≢ out → list_any (λ y. is_same y x) known ≡ false → is_other out known x ≡ true
 is_other_by out known x n e = rw (not_same x out n, e) refl
 
 -- ---- the clause that joins two sides
@@ -190,9 +190,9 @@ module _ (split : Lit) (first second : List Lit) (sides : AreSides split first s
 
   back : (x : Lit) → IsOfSides split first second x → Contains (joined_clause split first second) x
   back x (inl i, not_split, not_negation) = in_one x i not_negation
-  back x (inr i, not_split, not_negation) = go (list_any (is_same x) first) refl
+  back x (inr i, not_split, not_negation) = go (list_any (λ y. is_same y x) first) refl
     where
-      go : (t : Bool) → list_any (is_same x) first ≡ t → Contains (joined_clause split first second) x
+      go : (t : Bool) → list_any (λ y. is_same y x) first ≡ t → Contains (joined_clause split first second) x
       go true is = in_one x (known_in x first is) not_negation
       go false is = Contains-append_right (filter (is_other (negation split) []) first) (filter (is_other split first) second) x (in_filter (is_other split first) second x i (is_other_by split first x not_split is))
 

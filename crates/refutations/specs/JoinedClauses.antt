@@ -11,7 +11,7 @@ is_same x y = (x.atom.0 == y.atom.0) && beq x.positive y.positive
 
 -- the literal is neither the one left out nor one of those known
 abbrev pub is_other : Lit → List Lit → Lit → Bool
-is_other out known x = not (is_same x out) && not (list_any (is_same x) known)
+is_other out known x = not (is_same x out) && not (list_any (λ y. is_same y x) known)
 
 -- the first side without the split's negation, and what the second has besides it and the split
 abbrev pub joined_clause : Lit → List Lit → List Lit → List Lit

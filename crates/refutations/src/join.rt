@@ -1,5 +1,5 @@
 ghost use Rattle.std.specs.Prelude.{◌≡◌, ◌++◌, IfOk, OnOk};
-ghost use Rattle.std.specs.List.{list_any, filter};
+ghost use Rattle.std.specs.List.{filter};
 ghost use Rattle.refutations.specs.JoinedClauses as spec;
 
 use count_core::Lit;
@@ -42,12 +42,5 @@ fn push_others(
 fn is_other(lit: Lit, out: Lit, known: &[Lit]) -> bool
     ensures { result ≡ spec.is_other out known.now lit }
 {
-    lit != out && !has(known, lit)
-}
-
-/// Whether the literal is one of these.
-fn has(lits: &[Lit], lit: Lit) -> bool
-    ensures { result ≡ list_any (spec.is_same lit) lits.now }
-{
-    lits.iter().any(|other| lit == *other)
+    lit != out && !known.contains(&lit)
 }
