@@ -1,4 +1,5 @@
-ghost use Rattle.std.specs.Prelude.{◌≡◌, ◌<◌, true, length, IfSome, IfNone};
+ghost use Rattle.std.specs.Prelude.{◌≡◌, ◌<◌, true, length, IfSome, IfNone, Contains};
+ghost use Rattle.count_core.specs.Assignments.{negation};
 ghost use Rattle.refutations.specs.Derivations.{clause_at};
 ghost use Rattle.refutations.specs.Joins.{AreSides};
 
@@ -395,4 +396,91 @@ fn are_sides(split: Lit, first: &[Lit], second: &[Lit]) -> bool
     first.contains(&split.negation())
         && second.contains(&split)
         && first.iter().all(|lit| lit.atom == split.atom || !second.contains(&lit.negation()))
+}
+
+/// Whether a log of these steps may join them.
+fn may_join(steps: &[Step], split: Lit, first: u32, second: Option<u32>) -> bool
+    ensures first { result ≡ true → first < length steps.now }
+    ensures second { result ≡ true → IfSome second (λ n. n < length steps.now) }
+    ensures alone { result ≡ true
+        → IfNone second (¬ (Contains (clause_at steps.now first) (negation split))) }
+    ensures sides { result ≡ true → IfSome second (λ n.
+        AreSides split (clause_at steps.now first) (clause_at steps.now n)) }
+{
+    let Some(one) = steps.get(first as usize) else {
+        return false;
+    };
+    let one = one.clause.as_slice();
+    match second {
+        None => !one.contains(&split.negation()),
+        Some(second) => match steps.get(second as usize) {
+            None => false,
+            Some(other) => are_sides(split, one, other.clause.as_slice()),
+        },
+    }
+}
+
+/// The number that the log answers for the joined sides, where it may join them.
+fn join(
+    alloc: Global,
+    log: &mut ProofLog,
+    split: Lit,
+    first: u32,
+    second: Option<u32>,
+) -> Option<u32> {
+    if !may_join(log.steps(), split, first, second) {
+        return None;
+    }
+    log.join_sides(alloc, split, first, second).ok()
+}
+
+/// Two sides of a split over atom 0, and a step that needs no second side.
+const SIDES: [Line<'static>; 3] = [
+    (&[NO_0, NO_2], &[Hint::Rule(8)]),
+    (&[NO_4, YES_0, NO_2], &[Hint::Rule(8)]),
+    NOT_2,
+];
+
+/// A split, its two steps, the number that is answered, and the steps that are added.
+const JOINS: [(Lit, u32, Option<u32>, u32, &[Line<'static>]); 3] = [
+    (
+        YES_0,
+        0,
+        Some(1),
+        3,
+        &[(&[NO_2, NO_4], &[Hint::Step(0), Hint::Step(1)])],
+    ),
+    (
+        NO_0,
+        1,
+        Some(0),
+        3,
+        &[(&[NO_4, NO_2], &[Hint::Step(1), Hint::Step(0)])],
+    ),
+    (YES_0, 2, None, 2, &[]),
+];
+
+/// What the log of `SIDES` answers for the join, and whether it then has these steps more.
+fn join_is(
+    alloc: Global,
+    split: Lit,
+    first: u32,
+    second: Option<u32>,
+    more: &[Line<'_>],
+) -> Option<(u32, bool)> {
+    let mut log = log_of(alloc, &SIDES)?;
+    let number = join(alloc, &mut log, split, first, second)?;
+    Some((number, are(log.steps().get(3..)?, more)))
+}
+
+#[test]
+fn joined_sides(rt: HostRuntime) {
+    for (split, first, second, number, more) in JOINS {
+        let answer = join_is(rt.alloc(), split, first, second, more);
+        assert_eq!(rt;
+            answer,
+            Some((number, true)),
+            "steps {first} and {second:?}"
+        );
+    }
 }
