@@ -14,8 +14,8 @@ use Rattle.count_core.specs.Assignments.{negation, under_sign}
 use Rattle.count_core.specs.Problems.{Problem, mentions, repeats, are_within}
 use Rattle.count_core.specs.PartialAssignments.{PartialAssignment, value_at, has_sign, is_true, is_false, is_unset, trues, falses, unsets, conflicts, assign_all, ForcesAll}
 use Rattle.count_core.specs.Steps.{clause_rule, step_of, rule_at, assumed_negation, is_clause, LeadToConflict, IsAccepted, AreAccepted}
-use Rattle.count_core.proofs.Lists.{each_map, both_true, count_cons, any_counts, none_pass}
-use Rattle.count_core.proofs.Assigning.{none_unset, true_not_false, value_at_none, length-assign_all, assign_all_other, assign_all_keeps}
+use Rattle.count_core.proofs.Lists.{both_true, count_cons, count_none, count_each, any_counts}
+use Rattle.count_core.proofs.Assigning.{none_unset, unset_not_true, false_not_unset, false_not_true, false_by_value, nothing_set, length-assign_all, assign_all_other, assign_all_keeps}
 use Rattle.count_core.proofs.AtomValues.{assigned_value}
 use Rattle.count_core.proofs.Extensions.{false_up}
 use Rattle.count_core.proofs.RuleEffects.{numbers_add, conflicts_outside, forces_true}
@@ -28,39 +28,7 @@ use Rattle.refutations.specs.JoinedClauses.{is_same, joined_clause}
 use Rattle.refutations.proofs.LastSteps.{step_there}
 use Rattle.refutations.proofs.JoinedLits.{each_of, each_gives, not_over, over_other, same_is, same_not, apart_in_first, apart_in_second, of_first, of_second, sides_joined}
 
--- ---- counts
-
-count_none : {X : Type 0} (p : X → Bool) (xs : List X) → Each (λ x. p x ≡ false) xs → count_by p xs ≡ 0
-count_none p [] h = refl
-count_none p (x ∷ xs) h = let here = count_cons p x xs ∙ ap (λ b. cond b 1 0 + count_by p xs) h.0 in let rest = count_none p xs h.1 in omega arith
-
-count_each : {X : Type 0} (p : X → Bool) (xs : List X) → Each (λ x. p x ≡ true) xs → count_by p xs ≡ length xs
-count_each p [] h = refl
-count_each p (x ∷ xs) h = let here = count_cons p x xs ∙ ap (λ b. cond b 1 0 + count_by p xs) h.0 in let rest = count_each p xs h.1 in omega arith
-
 -- ---- a clause of which one literal is unset and the others are false
-
-unset_not_true : (p : PartialAssignment) (x : Lit) → is_unset p x ≡ true → is_true p x ≡ false
-unset_not_true p x u = go (is_true p x) u
-  where
-    go : (t : Bool) → (not t && not (is_false p x)) ≡ true → t ≡ false
-    go true u = cc
-    go false u = refl
-
-false_not_unset : (p : PartialAssignment) (x : Lit) → is_false p x ≡ true → is_unset p x ≡ true → ⊥
-false_not_unset p x f u = go (is_true p x) (is_false p x) f u
-  where
-    go : (t f : Bool) → f ≡ true → (not t && not f) ≡ true → ⊥
-    go true f e u = cc
-    go false true e u = cc
-    go false false e u = cc
-
-false_not_true : (p : PartialAssignment) (x : Lit) → is_false p x ≡ true → is_true p x ≡ false
-false_not_true p x f = go (is_true p x) refl
-  where
-    go : (t : Bool) → is_true p x ≡ t → t ≡ false
-    go true is = let no = true_not_false p x is in cc
-    go false is = refl
 
 -- where only literals over one atom are unset, at most one is
 one_unset : (p : PartialAssignment) (a : ℕ) (ls : List Lit) → repeats ls ≡ false → Each (λ x. is_unset p x ≡ true → x.atom.0 ≡ a) ls → unsets p ls ≤ 1
@@ -105,23 +73,6 @@ module _ (p : PartialAssignment) (l : Lit) (ls : List Lit) (once : repeats ls �
       let c = some_unset in
       let add = numbers_add p ls in
       forces_true p ls 1 (length ls) (trues p ls) (falses p ls) refl refl (omega arith) (omega arith) (omega arith) (omega arith) (omega arith)
-
--- ---- values
-
--- a literal is false by the value of its atom
-false_by_value : (p : PartialAssignment) (x : Lit) → value_at p x.atom.0 ≡ Some (under_sign x.positive false) → is_false p x ≡ true
-false_by_value p x e = rw e (go x.positive)
-  where
-    go : (b : Bool) → has_sign (not b) (Some (under_sign b false)) ≡ true
-    go true = refl
-    go false = refl
-
-nothing_set : (n a : ℕ) → value_at (replicate n None) a ≡ None
-nothing_set n a = go (value_at (replicate n None) a) refl
-  where
-    go : (o : Option Bool) → value_at (replicate n None) a ≡ o → o ≡ None
-    go None is = refl
-    go (Some c) is = absurd (value_at_none n a c is)
 
 -- a clause whose literals are all false conflicts
 all_false_conflicts : (p : PartialAssignment) (ls : List Lit) → Each (λ x. is_false p x ≡ true) ls → conflicts p ls 1 (length ls) ≡ true
