@@ -8,12 +8,7 @@ pub mod Joins
 pub mod Shifts
 pub mod Cones
 -- what hints name, as the code has it
-<<<<<<< HEAD
 pub mod NamedRules
 pub mod EarlierSteps
-=======
-pub mod Named
-pub mod Earlier
 pub mod JoinedClauses
 pub mod Turns
->>>>>>> origin/sides

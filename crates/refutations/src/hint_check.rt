@@ -10,17 +10,10 @@ use count_core::{Hint, Lit, Problem, Step};
 
 /// A rule or a clause, as its literals and bounds.
 #[derive(Clone, Copy)]
-<<<<<<< HEAD
-struct NamedRule<'a> {
-    lits: &'a [Lit],
-    lo: usize,
-    hi: usize,
-=======
-pub(crate) struct Named<'a> {
+pub(crate) struct NamedRule<'a> {
     pub(crate) lits: &'a [Lit],
     pub(crate) lo: usize,
     pub(crate) hi: usize,
->>>>>>> origin/sides
 }
 
 /// The failing hint of a step after the earlier ones, from 0, or none where it is accepted. Begins
@@ -78,15 +71,11 @@ fn is_set(values: &[Option<bool>], lit: Lit) -> bool
 }
 
 /// The rule or the clause that a hint names, if there is one.
-<<<<<<< HEAD
-fn find_rule<'a>(problem: &'a Problem, earlier: &'a [Step], hint: Hint) -> Option<NamedRule<'a>>
-=======
 pub(crate) fn find_rule<'a>(
     problem: &'a Problem,
     earlier: &'a [Step],
     hint: Hint,
-) -> Option<Named<'a>>
->>>>>>> origin/sides
+) -> Option<NamedRule<'a>>
     ensures { option_map rule_of result ≡ spec.rule_at problem.now earlier.now hint }
 {
     match hint {
