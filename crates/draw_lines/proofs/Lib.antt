@@ -3,7 +3,6 @@
 pub mod FirstPiece
 -- the pieces are the bytes cut into lines, and what stands before and after the separator
 pub mod PiecesAndSeparator
-
 -- ---- texts
 -- the last move of a ball, whose line is told
 pub mod LastMove

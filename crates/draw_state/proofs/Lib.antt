@@ -3,7 +3,6 @@
 pub mod Refusals
 -- of each command exactly one thing is true
 pub mod Outcomes
-
 -- ---- steps and runs
 -- what a ball adds, next lines, steps and runs
 pub mod Steps

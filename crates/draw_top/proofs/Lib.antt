@@ -1,7 +1,6 @@
 -- ---- the words of a call
 -- one word that is a text
 pub mod Words
-
 -- ---- the answer text
 -- an accepted ball makes a step
 pub mod AcceptedBalls
@@ -9,7 +8,6 @@ pub mod AcceptedBalls
 pub mod OneMoreLine
 -- the answer text is a function of the input
 pub mod OneAnswer
-
 -- ---- how a call ends
 -- what was read to its end is what the source held, and which status its bytes decide for
 pub mod WhatWasRead

@@ -138,7 +138,10 @@ fn balls_are_judged(rt: HostRuntime) -> Result<(), Fail> {
         (0, "PSG", Err(Refusal::Phase)),
         (0, "MUN", Err(Refusal::Excluded)),
     ] {
-        assert!(rt; said_after_villarreal(alloc, answered, code)? == said, "{code}");
+        assert!(rt;
+            said_after_villarreal(alloc, answered, code)? == said,
+            "{code}"
+        );
     }
     Ok(())
 }
@@ -179,8 +182,7 @@ fn follow_gives(alloc: Global, head: &str, lines: &str, answer: &[u8]) -> Result
 /// `follow` answers as `run_draw` does, without a runtime.
 #[test]
 fn follow_needs_no_runtime(rt: HostRuntime) -> Result<(), Fail> {
-    let answer =
-        b"draw pairing 2 teams\nnext runner-up: BBB\ndrawn BBB\nnext opponent BBB: AAA\n";
+    let answer = b"draw pairing 2 teams\nnext runner-up: BBB\ndrawn BBB\nnext opponent BBB: AAA\n";
     assert!(rt; follow_gives(rt.alloc(), TWO_TEAMS, "ball BBB\n", answer)?);
     Ok(())
 }

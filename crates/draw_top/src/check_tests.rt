@@ -93,7 +93,10 @@ fn tables_are_judged(rt: HostRuntime) -> Result<(), Fail> {
         ),
         ("", Status::NotValid, "not a table\n"),
     ] {
-        assert!(rt; gives(alloc, ROUND_OF_16, lines, status, wanted)?, "{lines}");
+        assert!(rt;
+            gives(alloc, ROUND_OF_16, lines, status, wanted)?,
+            "{lines}"
+        );
     }
     Ok(())
 }
