@@ -1,6 +1,3 @@
--- ---- partial assignments
--- of two assignments of which one sets what the other sets: what rules say under them
-pub mod Extensions
 -- ---- trails and steps
 -- members of lists, and clauses that hold only negations of some literals
 pub mod Negations

@@ -126,19 +126,12 @@ calm_bounds p ls lo hi calm = grind (arith, nat_tests)
 clause_at_hint : (problem : Problem) (steps : List Step) (c : Clause) → IsOfStep steps c → rule_at problem steps (Earlier c.step) ≡ Some (clause_rule c.lits)
 clause_at_hint problem steps c (s, at, is) = ap (option_map (λ (t : Step). clause_rule t.clause)) at ∙ ap (λ ls. Some (clause_rule ls)) is
 
-step_shaped : (problem : Problem) (steps : List Step) (c : Clause) → AreAccepted problem steps → IsOfStep steps c → is_clause problem c.lits ≡ true
-step_shaped problem steps c accepted (s, at, is) = subst (λ ls. is_clause problem ls ≡ true) is ((accepted_by_conflict problem (take c.step steps) s).0 (accepted_at problem steps c.step s accepted at)).0
-
-are_found : (problem : Problem) (steps : List Step) (clauses : List Clause) → IsWellFormed problem → AreAccepted problem steps → Each (IsOfStep steps) clauses → AreFound (rule_at problem steps) problem clauses
-are_found problem steps clauses formed accepted linked = record { found = found; within = within; bounds = bounds }
+are_found : (problem : Problem) (steps : List Step) (clauses : List Clause) → IsWellFormed problem → Each (IsOfStep steps) clauses → AreFound (rule_at problem steps) problem clauses
+are_found problem steps clauses formed linked = record { found = found; bounds = bounds }
   where
     found : (h : Hint) (r : CountRule) → IsNamed problem clauses h r → rule_at problem steps h ≡ Some r
     found (Rule n) r e = e
     found (Earlier n) r (k, c, at, step, same) = rw (← step) (clause_at_hint problem steps c (each_at (IsOfStep steps) clauses k c linked at) ∙ ap Some (sym same))
-
-    within : (h : Hint) (r : CountRule) → IsNamed problem clauses h r → are_within problem.atoms r.lits ≡ true
-    within (Rule n) r e = (each_at (IsWellFormedRule problem.atoms) problem.rules n r formed.rules e).in_range
-    within (Earlier n) r (k, c, at, step, same) = rw same (both_true _ _ (step_shaped problem steps c accepted (each_at (IsOfStep steps) clauses k c linked at))).0
 
     bounds : (h : Hint) (r : CountRule) (p : PartialAssignment) → IsNamed problem clauses h r → conflicts p r.lits r.lo r.hi ≡ false → r.lo ≤ r.hi
     bounds (Rule n) r p e calm = (each_at (IsWellFormedRule problem.atoms) problem.rules n r formed.rules e).bounds
@@ -157,21 +150,21 @@ negations_clause problem e same sound =
     let b = negations_distinct e.problem e.clauses e.entries (replicate e.problem.atoms None) sound.caused in
     rw (a, b) refl)
 
-causes_lead : (steps : List Step) (e : Engine) (cause : Hint) → Each (IsOfStep steps) e.clauses → AreAccepted e.problem steps → IsSound e → IsWellFormed e.problem → IsConflict e cause
+causes_lead : (steps : List Step) (e : Engine) (cause : Hint) → Each (IsOfStep steps) e.clauses → IsSound e → IsWellFormed e.problem → IsConflict e cause
     → (kept : List Hint) × (leading (rule_at e.problem steps) (assumed_negation e.problem.atoms (negations_of e.entries)) (hints_of e.entries cause) ≡ Some kept)
-causes_lead steps e cause linked accepted sound formed (r, named, c) =
+causes_lead steps e cause linked sound formed (r, named, c) =
     let nothing : Option Bool = None in
     let len = length-replicate e.problem.atoms nothing in
-    replay_leads (rule_at e.problem steps) e.problem e.clauses (are_found e.problem steps e.clauses formed accepted linked)
+    replay_leads (rule_at e.problem steps) e.problem e.clauses (are_found e.problem steps e.clauses formed linked)
     e.entries (replicate e.problem.atoms None) (assumed_negation e.problem.atoms (negations_of e.entries))
     len (length-assign_all false (negations_of e.entries) (replicate e.problem.atoms None) ∙ len)
     (λ a b k. absurd (value_at_none e.problem.atoms a b k))
     (negated_true e.problem e.clauses e.entries (replicate e.problem.atoms None) (replicate e.problem.atoms None) refl (λ a b k. k) sound.caused)
     sound.caused cause r named c
 
-pub conflict_leads_on : (log : Derivation) (e : Engine) (cause : Hint) → AreLinked log e → AreAccepted log.problem log.steps → IsSound e → IsWellFormed e.problem → IsConflict e cause → LeadOn log (negations_of e.entries) (hints_of e.entries cause)
-conflict_leads_on log e cause linked accepted sound formed conflict =
-    let lead = causes_lead log.steps e cause linked.clauses (subst (λ p. AreAccepted p log.steps) (sym linked.problem) accepted) sound formed conflict in
+pub conflict_leads_on : (log : Derivation) (e : Engine) (cause : Hint) → AreLinked log e → IsSound e → IsWellFormed e.problem → IsConflict e cause → LeadOn log (negations_of e.entries) (hints_of e.entries cause)
+conflict_leads_on log e cause linked sound formed conflict =
+    let lead = causes_lead log.steps e cause linked.clauses sound formed conflict in
     let clause = negations_clause log.problem e linked.problem sound in
     (lead.0, rw (clause, ← linked.problem) lead.1)
 

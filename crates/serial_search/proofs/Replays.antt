@@ -12,38 +12,35 @@ use Rattle.count_core.specs.declared.hint.Hint.{Hint}
 use Rattle.count_core.specs.declared.count_rule.CountRule.{CountRule}
 use Rattle.count_core.specs.Problems.{Problem, mentions, repeats, are_within}
 use Rattle.count_core.specs.Assignments.{negation, under_sign}
-use Rattle.count_core.specs.PartialAssignments.{PartialAssignment, value_at, is_true, is_unset, conflicts, forces, forced_assignment, assign, assign_all}
+use Rattle.count_core.specs.PartialAssignments.{PartialAssignment, value_at, is_true, is_unset, conflicts, forces, forced_assignment, assign, assign_all, IsExtendedBy}
 use Rattle.count_core.proofs.Lists.{each_map}
 use Rattle.count_core.proofs.Assigning.{none_unset, value_at_set, value_at_same, value_at_other, assign_unset, assign_all_keeps, length-assign}
-use Rattle.count_core.proofs.Rules.{each_within}
+use Rattle.count_core.proofs.Extensions.{true_up, conflicts_up, forced_up, forced_extends, length-forced, idle_stays}
 use Rattle.refutations.specs.Leading.{keep_hint, leading}
 use Rattle.propagation.specs.declared.clause.Clause.{Clause}
 use Rattle.propagation.specs.Trails.{Entry, with_true, extended, IsFree}
 use Rattle.propagation.specs.Constraints.{IsNamed}
 use Rattle.propagation.specs.Causes.{ForcesLit, IsCaused, AreCaused}
 use Rattle.serial_search.specs.Assumptions.{or_assumed, assumed_of, negations_of, or_caused, hints_of}
-use Rattle.serial_search.proofs.Extensions.{Within, true_kept, conflict_kept, forced_within, forced_keeps, length_forced, idle_keeps}
 use Rattle.serial_search.proofs.Trails.{true_value, value_true}
 
 -- Each assumed literal is true.
 abbrev pub AreTrue : PartialAssignment → List Entry → Type 0
 AreTrue q es = Each (λ (e : Entry). e.cause ≡ None → is_true q e.lit ≡ true) es
 
-true_on : (q r : PartialAssignment) → Within q r → (es : List Entry) → AreTrue q es → AreTrue r es
-true_on q r w es h = each_map (λ (e : Entry). e.cause ≡ None → is_true q e.lit ≡ true) (λ (e : Entry). e.cause ≡ None → is_true r e.lit ≡ true) es (λ e f none. true_kept q r w e.lit (f none)) h
+true_on : (q r : PartialAssignment) → IsExtendedBy q r → (es : List Entry) → AreTrue q es → AreTrue r es
+true_on q r w es h = each_map (λ (e : Entry). e.cause ≡ None → is_true q e.lit ≡ true) (λ (e : Entry). e.cause ≡ None → is_true r e.lit ≡ true) es (λ e f none. true_up q r w e.lit (f none)) h
 
 -- a literal more that is true in q
-with_true_within : (p q : PartialAssignment) (l : Lit) → Within p q → is_true q l ≡ true → Within (with_true p l) q
+with_true_within : (p q : PartialAssignment) (l : Lit) → IsExtendedBy p q → is_true q l ≡ true → IsExtendedBy (with_true p l) q
 with_true_within p q l w e k c f = elim (value_at_set p l.atom.0 l.positive k c f) [
   inl v ↦ ap (value_at q) v.0 ∙ true_value q l e ∙ ap Some (sym v.1)
   | inr v ↦ w k c v
   ]
 
--- What a cause names, `find` finds; its literals are within the problem; and its bounds are in order where
--- it does not conflict.
+-- What a cause names, `find` finds, and its bounds are in order where it does not conflict.
 pub record AreFound (find : Hint → Option CountRule) (problem : Problem) (clauses : List Clause) : Type 0 where
   pub found : (h : Hint) (r : CountRule) → IsNamed problem clauses h r → find h ≡ Some r
-  pub within : (h : Hint) (r : CountRule) → IsNamed problem clauses h r → are_within problem.atoms r.lits ≡ true
   pub bounds : (h : Hint) (r : CountRule) (p : PartialAssignment) → IsNamed problem clauses h r → conflicts p r.lits r.lo r.hi ≡ false → r.lo ≤ r.hi
 
 -- Some of the hints lead to a conflict.
@@ -56,10 +53,10 @@ module _ (find : Hint → Option CountRule) (problem : Problem) (clauses : List 
 
   -- The entries from here on lead on in each replay that has set no less.
   abbrev LeadFrom : PartialAssignment → List Entry → Hint → Type 0
-  LeadFrom p es last = (s : PartialAssignment) → length s ≡ problem.atoms → Within p s → AreTrue s es → Lead find s (hints_of es last)
+  LeadFrom p es last = (s : PartialAssignment) → length s ≡ problem.atoms → IsExtendedBy p s → AreTrue s es → Lead find s (hints_of es last)
 
-  module _ (p q : PartialAssignment) (np : length p ≡ problem.atoms) (nq : length q ≡ problem.atoms) (w : Within p q) (l : Lit) (es : List Entry) (last : Hint) (held : AreTrue q es) (rest : LeadFrom (with_true p l) es last) where
-    within_still : (s : PartialAssignment) → Within q s → is_true s l ≡ true → Within (with_true p l) s
+  module _ (p q : PartialAssignment) (np : length p ≡ problem.atoms) (nq : length q ≡ problem.atoms) (w : IsExtendedBy p q) (l : Lit) (es : List Entry) (last : Hint) (held : AreTrue q es) (rest : LeadFrom (with_true p l) es last) where
+    within_still : (s : PartialAssignment) → IsExtendedBy q s → is_true s l ≡ true → IsExtendedBy (with_true p l) s
     within_still s more sure = with_true_within p s l (λ a b f. more a b (w a b f)) sure
 
     true_leads : is_true q l ≡ true → Lead find q (hints_of es last)
@@ -71,19 +68,19 @@ module _ (find : Hint → Option CountRule) (problem : Problem) (clauses : List 
 
       true_after : is_true (forced_assignment q r.lits r.lo r.hi) l ≡ true
       true_after =
-          true_kept (forced_assignment p r.lits r.lo r.hi) (forced_assignment q r.lits r.lo r.hi)
-          (forced_within p q w (np ∙ sym nq) r.lits r.lo r.hi (rules.bounds h r p named f.calm) (subst (λ n. Each (λ (m : Lit). m.atom.0 < n) r.lits) (sym nq) (each_within problem.atoms r.lits (rules.within h r named))) calm)
+          true_up (forced_assignment p r.lits r.lo r.hi) (forced_assignment q r.lits r.lo r.hi)
+          (forced_up p q w (np ∙ sym nq) r.lits r.lo r.hi (rules.bounds h r p named f.calm) calm)
           l f.makes
 
       force_leads : forces q r.lits r.lo r.hi ≡ true → Lead find q (h ∷ hints_of es last)
       force_leads sure =
-          let keeps = forced_keeps q r.lits r.lo r.hi in
-          let on = rest (forced_assignment q r.lits r.lo r.hi) (length_forced q r.lits r.lo r.hi ∙ nq) (within_still (forced_assignment q r.lits r.lo r.hi) keeps true_after) (true_on q (forced_assignment q r.lits r.lo r.hi) keeps es held) in
+          let keeps = forced_extends q r.lits r.lo r.hi in
+          let on = rest (forced_assignment q r.lits r.lo r.hi) (length-forced q r.lits r.lo r.hi ∙ nq) (within_still (forced_assignment q r.lits r.lo r.hi) keeps true_after) (true_on q (forced_assignment q r.lits r.lo r.hi) keeps es held) in
           (h ∷ on.0, rw (rules.found h r named, calm, sure, on.1) refl)
 
       idle_leads : forces q r.lits r.lo r.hi ≡ false → Lead find q (h ∷ hints_of es last)
       idle_leads idle =
-          let same = idle_keeps q r.lits r.lo r.hi idle in
+          let same = idle_stays q r.lits r.lo r.hi idle in
           let sure : is_true q l ≡ true = rw same at true_after in
           let on = true_leads sure in
           (on.0, rw (rules.found h r named, calm, idle, on.1) refl)
@@ -102,9 +99,9 @@ module _ (find : Hint → Option CountRule) (problem : Problem) (clauses : List 
 
   -- From p on the entries are caused, and what the replay has set is no less. Then their causes and a hint
   -- that conflicts after them lead to a conflict.
-  pub replay_leads : (es : List Entry) (p q : PartialAssignment) → length p ≡ problem.atoms → length q ≡ problem.atoms → Within p q → AreTrue q es → AreCaused problem clauses p es
+  pub replay_leads : (es : List Entry) (p q : PartialAssignment) → length p ≡ problem.atoms → length q ≡ problem.atoms → IsExtendedBy p q → AreTrue q es → AreCaused problem clauses p es
       → (last : Hint) (r : CountRule) → IsNamed problem clauses last r → conflicts (extended p es) r.lits r.lo r.hi ≡ true → Lead find q (hints_of es last)
-  replay_leads [] p q np nq w held caused last r named c = conflict_leads q last r [] named (conflict_kept p q w r.lits r.lo r.hi c)
+  replay_leads [] p q np nq w held caused last r named c = conflict_leads q last r [] named (conflicts_up p q w r.lits r.lo r.hi c)
   replay_leads (e ∷ es) p q np nq w held caused last r named c =
       entry_leads p q np nq w e.lit es last held.1
       (λ s ns ws hs. replay_leads es (with_true p e.lit) s (length-set p e.lit.atom.0 (Some e.lit.positive) ∙ np) ns ws hs caused.2 last r named c)
@@ -161,7 +158,7 @@ module _ (problem : Problem) (clauses : List Clause) where
   false_under false = refl
 
   -- with these negations made false, the assumed literals are true
-  pub negated_true : (es : List Entry) (p q : PartialAssignment) → length p ≡ length q → Within q p → AreCaused problem clauses p es → AreTrue (assign_all false (negations_of es) q) es
+  pub negated_true : (es : List Entry) (p q : PartialAssignment) → length p ≡ length q → IsExtendedBy q p → AreCaused problem clauses p es → AreTrue (assign_all false (negations_of es) q) es
   negated_true [] p q len w h = tt
   negated_true (e ∷ es) p q len w h = go e.cause (λ s n u. negated_true es (with_true p e.lit) s n u h.2)
     where
@@ -190,16 +187,16 @@ module _ (problem : Problem) (clauses : List Clause) where
       grown : length (with_true p e.lit) ≡ length p
       grown = length-set p e.lit.atom.0 (Some e.lit.positive)
 
-      kept : Within p (with_true p e.lit)
+      kept : IsExtendedBy p (with_true p e.lit)
       kept a b k = value_at_other p e.lit.atom.0 (Some e.lit.positive) a (λ same. (let none = free_none p e.lit h.0 in let some : value_at p e.lit.atom.0 ≡ Some b = subst (λ x. value_at p x ≡ Some b) same k in cc)) ∙ k
 
-      both : Within (slice_set q e.lit.atom.0 (Some e.lit.positive)) (with_true p e.lit)
+      both : IsExtendedBy (slice_set q e.lit.atom.0 (Some e.lit.positive)) (with_true p e.lit)
       both a b k = elim (value_at_set q e.lit.atom.0 e.lit.positive a b k) [
         inl v ↦ ap (value_at (with_true p e.lit)) v.0 ∙ value_at_same p e.lit.atom.0 e.lit.positive lt ∙ ap Some (sym v.1)
         | inr v ↦ kept a b (w a b v)
         ]
 
-      go : (o : Option Hint) → ((s : PartialAssignment) → length (with_true p e.lit) ≡ length s → Within s (with_true p e.lit) → AreTrue (assign_all false (negations_of es) s) es)
+      go : (o : Option Hint) → ((s : PartialAssignment) → length (with_true p e.lit) ≡ length s → IsExtendedBy s (with_true p e.lit) → AreTrue (assign_all false (negations_of es) s) es)
           → (o ≡ None → is_true (assign_all false (map negation (or_assumed o e.lit (assumed_of es))) q) e.lit ≡ true)
           × AreTrue (assign_all false (map negation (or_assumed o e.lit (assumed_of es))) q) es
       go None rest =

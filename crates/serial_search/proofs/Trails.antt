@@ -1,7 +1,7 @@
 -- The literals of a trail that were assumed, and its causes.
 use Rattle.std.proofs.Common.{◌≡◌, ◌≢◌, ℕ, zero, suc, ◌+◌, ◌<◌, ◌≤◌, Bool, true, false, not, cond, List, [], ◌∷◌, ◌++◌, length, take, drop, get_or, append_assoc, refl, sym, ap, ◌∙◌, subst, arith, Option, Some, None, slice_get, ◌⊎◌, inl, inr}
 use Rattle.std.specs.Prelude.{slice_set, replicate, map, option_and_then, Contains, ◌==◌}
-use Rattle.std.proofs.lemmas.List.{append-nil, length-append}
+use Rattle.std.proofs.lemmas.List.{append-nil}
 use Rattle.std.proofs.lemmas.Option.{slice_get_within}
 use Rattle.count_core.specs.declared.lit.Lit.{Lit}
 use Rattle.count_core.specs.declared.hint.Hint.{Hint}
@@ -9,13 +9,14 @@ use Rattle.count_core.specs.declared.count_rule.CountRule.{CountRule}
 use Rattle.count_core.specs.Problems.{Problem}
 use Rattle.count_core.specs.Assignments.{negation}
 use Rattle.count_core.specs.PartialAssignments.{PartialAssignment, value_at, has_sign, is_true, is_unset, trues, forced_assignment}
+use Rattle.std.specs.List.{AllByRecursion as Each}
+use Rattle.count_core.proofs.Trails.{unset_number_set}
 use Rattle.count_core.proofs.Assigning.{value_at_set, value_at_same, value_at_other, value_at_none, none_unset}
 use Rattle.propagation.specs.declared.clause.Clause.{Clause}
-use Rattle.propagation.specs.Trails.{Entry, lits_of, with_entry, with_true, extended, values_of, IsFree, AreFree, IsCauseOf}
+use Rattle.propagation.specs.Trails.{Entry, lits_of, with_entry, with_true, extended, values_of, SetsAsMany, IsFree, IsCauseOf}
 use Rattle.propagation.specs.Causes.{IsCaused, AreCaused}
-use Rattle.propagation.specs.Firings.{directed, entries_setting, entries_forced, Firing, entries_fired}
-use Rattle.propagation.specs.Engines.{Engine, values_in, IsSound, IsPropagated}
-use Rattle.propagation.proofs.Trails.{entries_few}
+use Rattle.propagation.specs.Engines.{Engine, values_in, AddsForced}
+use Rattle.propagation.proofs.Trails.{length_values}
 use Rattle.serial_search.specs.Assumptions.{or_assumed, assumed_of, negations_of, or_caused, hints_of}
 use Rattle.serial_search.specs.Sides.{IsLonger}
 use Rattle.serial_search.proofs.Negations.{first_member, later_member, member_cases, no_member}
@@ -33,28 +34,17 @@ assumed_append (x ∷ xs) ys = go x.cause (assumed_append xs ys)
 pub assumed_entry : (es : List Entry) (l : Lit) → assumed_of (with_entry es l None) ≡ assumed_of es ++ l ∷ []
 assumed_entry es l = assumed_append es (record { lit = l; cause = None } ∷ [])
 
-none_of_setting : (h : Hint) (b : Bool) (ls : List Lit) (p : PartialAssignment) → assumed_of (entries_setting h b p ls) ≡ []
-none_of_setting h b [] p = refl
-none_of_setting h b (l ∷ ls) p = go (is_unset p l) (none_of_setting h b ls (with_true p (directed b l))) (none_of_setting h b ls p)
+none_assumed : (es : List Entry) → Each (λ (e : Entry). e.cause ≢ None) es → assumed_of es ≡ []
+none_assumed [] h = refl
+none_assumed (e ∷ es) h = go e.cause h.0 (none_assumed es h.1)
   where
-    go : (u : Bool) → assumed_of (entries_setting h b (with_true p (directed b l)) ls) ≡ [] → assumed_of (entries_setting h b p ls) ≡ []
-        → assumed_of (cond u (record { lit = directed b l; cause = Some h } ∷ entries_setting h b (with_true p (directed b l)) ls) (entries_setting h b p ls)) ≡ []
-    go true set rest = set
-    go false set rest = rest
+    go : (o : Option Hint) → o ≢ None → assumed_of es ≡ [] → or_assumed o e.lit (assumed_of es) ≡ []
+    go None other rest = absurd (other refl)
+    go (Some h) other rest = rest
 
-none_of_fired : (fs : List Firing) (p : PartialAssignment) → assumed_of (entries_fired p fs) ≡ []
-none_of_fired [] p = refl
-none_of_fired (f ∷ fs) p =
-    let q = forced_assignment p f.rule.lits f.rule.lo f.rule.hi in
-    let here = none_of_setting f.hint (not (trues p f.rule.lits == f.rule.hi)) f.rule.lits p in
-    assumed_append (entries_forced f.hint p f.rule) (entries_fired q fs) ∙ rw (here, none_of_fired fs q) refl
-
-pub propagated_assumed : (old new : Engine) → IsPropagated old new → assumed_of new.entries ≡ assumed_of old.entries
-propagated_assumed old new (fs, fired, is) =
-    ap assumed_of is ∙ assumed_append old.entries _ ∙ ap (λ ls. assumed_of old.entries ++ ls) (none_of_fired fs _) ∙ append-nil (assumed_of old.entries)
-
-pub propagated_longer : (old new : Engine) → IsPropagated old new → IsLonger old.entries new.entries
-propagated_longer old new (fs, fired, is) = record { more = _; entries = is }
+pub forced_assumed : (old new : List Entry) → AddsForced old new → assumed_of new ≡ assumed_of old
+forced_assumed old new (es, is, forced) =
+    ap assumed_of is ∙ assumed_append old es ∙ ap (λ ls. assumed_of old ++ ls) (none_assumed es forced) ∙ append-nil (assumed_of old)
 
 -- ---- longer trails
 
@@ -201,22 +191,13 @@ module _ (problem : Problem) (clauses : List Clause) where
         ]
       go (Some x) c rest = rest c
 
--- ---- how many entries there can be
+-- ---- unset atoms
 
-caused_free : (problem : Problem) (clauses : List Clause) (es : List Entry) (p : PartialAssignment) → AreCaused problem clauses p es → AreFree p es
-caused_free problem clauses [] p h = tt
-caused_free problem clauses (e ∷ es) p h = (h.0, caused_free problem clauses es (with_true p e.lit) h.2)
-
-free_push : (es : List Entry) (p : PartialAssignment) (e : Entry) → AreFree p es → IsFree (extended p es) e.lit → AreFree p (es ++ e ∷ [])
-free_push [] p e h free = (free, tt)
-free_push (x ∷ es) p e h free = (h.0, free_push es (with_true p x.lit) e h.1 free)
-
--- fewer than atoms, where an atom is unset
-pub entries_below : (e : Engine) (l : Lit) → IsSound e → IsFree (values_in e) l → length e.entries < e.problem.atoms
-entries_below e l sound free =
-    let x : Entry = record { lit = l; cause = None } in
-    let pushed = free_push e.entries (replicate e.problem.atoms None) x (caused_free e.problem e.clauses e.entries (replicate e.problem.atoms None) sound.caused) free in
-    omega (arith, entries_few e.problem.atoms (e.entries ++ x ∷ []) pushed, length-append e.entries (x ∷ []))
+-- there are fewer entries than atoms, where an atom is unset
+pub entries_below : (e : Engine) (l : Lit) → SetsAsMany (values_in e) e.entries → IsFree (values_in e) l → length e.entries < e.problem.atoms
+entries_below e l many free =
+    let within = slice_get_within (values_in e) l.atom.0 None free in
+    omega (arith, many, within, length_values e.problem.atoms e.entries, unset_number_set (values_in e) l.atom.0 l.positive within (ap (option_and_then (λ (o : Option Bool). o)) free))
 
 -- an unset atom can be assumed
 pub free_unset : (p : PartialAssignment) (l : Lit) → IsFree p l → is_unset p l ≡ true

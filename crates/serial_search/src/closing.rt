@@ -117,7 +117,6 @@ fn close_by_all(
 {
     let _rules = engine.problem().rules();
     let _trail = engine.trail();
-    let _steps = log.steps();
     let clause = negations(alloc, engine)?;
     let hints = causes(alloc, engine, conflict)?;
     match log.add_leading(alloc, clause.as_slice(), hints.as_slice())? {

@@ -24,7 +24,6 @@ pub(crate) fn pick(engine: &Engine, heuristic: Heuristic) -> Option<Lit>
 {
     let values = engine.values();
     let advice = advised(values, engine.problem().rules(), heuristic);
-    let _trail = engine.trail();
     free_literal(values, engine.problem().atoms(), advice)
 }
 

@@ -9,7 +9,7 @@ use Rattle.serial_search.proofs.closing.close_by_all.Goals as goal
 pub unreachable-requires : goal.unreachable-requires
 unreachable-requires c =
     let formed : IsWellFormed c.args.engine.now.problem = rw (c.deref.ensures, c.problem.ensures) at c.rules-rules.ensures.formed in
-    let leads = conflict_leads_on c.args.log.now c.args.engine.now c.args.conflict c.requires.linked c.steps-steps.ensures.accepted c.trail-trail.ensures.sound formed c.requires.conflict in
+    let leads = conflict_leads_on c.args.log.now c.args.engine.now c.args.conflict c.requires.linked c.trail-trail.ensures.sound formed c.requires.conflict in
     let some = c.in_ok-number.ensures.leads (rw (c.as_slice.ensures.value, c.in_ok-clause.ensures, c.as_slice-2.ensures.value, c.in_ok-hints.ensures) leads) in
     let none = rw c.in-None.is at some in
     cc
