@@ -7,6 +7,7 @@ use count_core::{
     Atom, CountRule, Hint, Lit, Lits, Problem, Question, SharedProblem, are_distinct,
 };
 use refutations::ProofLog;
+use samples::CLASH;
 use std::alloc::Global;
 use std::sync::Arc;
 use std::test::Fail;
@@ -20,22 +21,6 @@ type Sign = (u32, bool);
 /// Whether an answer is Possible, how many steps it holds, how many second sides were opened, and
 /// what the session has done so far.
 type Report = (bool, usize, u64, Counts);
-
-/// Two pots of two teams in two groups; the atom of team i in group k is 2 * i + k. Each team in
-/// one group, in each group one team of each pot, in each group at most one team. No assignment
-/// satisfies all ten; without the last two one does.
-const CLASH: [Row<'static>; 10] = [
-    (&[0, 1], 1, 1),
-    (&[2, 3], 1, 1),
-    (&[4, 5], 1, 1),
-    (&[6, 7], 1, 1),
-    (&[0, 2], 1, 1),
-    (&[4, 6], 1, 1),
-    (&[1, 3], 1, 1),
-    (&[5, 7], 1, 1),
-    (&[0, 2, 4, 6], 0, 1),
-    (&[1, 3, 5, 7], 0, 1),
-];
 
 /// The first team is not in the first group.
 const NOT_0: [Lit; 1] = [Lit {
