@@ -1,15 +1,15 @@
 -- The value of one atom after literals are made true or false: the one that it had, else the one by
 -- the first literal over it.
 use Rattle.std.proofs.Common.{◌≡◌, ◌≢◌, ℕ, zero, suc, ◌<◌, Bool, true, false, cond, List, [], ◌∷◌, length, refl, sym, ap, ◌∙◌, subst, arith, Option, Some, None}
-use Rattle.std.specs.Prelude.{slice_set, ◌||◌, ◌==◌, not, ◌&&◌}
+use Rattle.std.specs.Prelude.{◌||◌, ◌==◌}
 use Rattle.std.specs.List.{AllByRecursion as Each}
 use Rattle.std.proofs.lemmas.Bool.Decides.{Decides-eqb}
 use Rattle.count_core.specs.declared.lit.Lit.{Lit}
 use Rattle.count_core.specs.Assignments.{under_sign}
 use Rattle.count_core.specs.Problems.{mentions, repeats}
-use Rattle.count_core.specs.PartialAssignments.{PartialAssignment, value_at, has_sign, is_unset, assign, assign_all}
+use Rattle.count_core.specs.PartialAssignments.{PartialAssignment, value_at, assign, assign_all}
 use Rattle.count_core.proofs.Lists.{each_map, none_pass}
-use Rattle.count_core.proofs.Assigning.{unset_none, none_unset, value_at_same, assign_unset, assign_other, assign_keeps, length-assign}
+use Rattle.count_core.proofs.Assigning.{none_unset, value_at_same, assign_unset, assign_other, assign_keeps, length-assign}
 
 -- an atom with a value is in range
 pub value_within : (p : PartialAssignment) (k : ℕ) (c : Bool) → value_at p k ≡ Some c → k < length p

@@ -1,7 +1,7 @@
 -- Assignments of which the second extends the first: what a rule says under the first it says under
 -- the second too, unless it conflicts there.
 use Rattle.std.proofs.Common.{◌≡◌, ◌≢◌, ℕ, ◌+◌, ◌-◌, ◌≤◌, ◌<◌, Bool, true, false, not, cond, List, [], ◌∷◌, length, refl, sym, ap, ◌∙◌, arith, Option, Some, None}
-use Rattle.std.specs.Prelude.{count_by, ◌&&◌, ◌||◌, ◌==◌, nat_lt}
+use Rattle.std.specs.Prelude.{◌&&◌, ◌||◌, ◌==◌, nat_lt}
 use Rattle.std.specs.List.{AllByRecursion as Each}
 use Rattle.std.proofs.lemmas.Bool.Decides.{nat_tests, Decides-eqb}
 use Rattle.count_core.specs.declared.lit.Lit.{Lit}
@@ -10,7 +10,7 @@ use Rattle.count_core.specs.PartialAssignments.{PartialAssignment, value_at, has
 use Rattle.count_core.proofs.Lists.{each_map, count_le, count_all, count_cons}
 use Rattle.count_core.proofs.Assigning.{assign_set, assign_all_keeps, length-assign_all}
 use Rattle.count_core.proofs.AtomValues.{value_within, value_after, value_at_assign_all, CanGet, after_no_less}
-use Rattle.count_core.proofs.RuleEffects.{numbers_add, both_bounds, conflicts_is, forces_is, forced_is}
+use Rattle.count_core.proofs.RuleEffects.{numbers_add, both_bounds, forces_is, forced_is}
 
 -- ---- signs
 

@@ -1,8 +1,8 @@
 -- Literals of lists over different atoms, those of them that pass a test, and the clause that joins
 -- the two sides of a split.
-use Rattle.std.proofs.Common.{◌≡◌, ◌≢◌, ℕ, ◌+◌, ◌<◌, Bool, true, false, not, cond, List, [], ◌∷◌, ◌++◌, length, get_or, refl, sym, ap, ◌∙◌, subst, arith, Some, slice_get, ◌⊎◌, inl, inr}
+use Rattle.std.proofs.Common.{◌≡◌, ◌≢◌, ℕ, ◌<◌, Bool, true, false, not, cond, List, [], ◌∷◌, ◌++◌, refl, sym, ap, ◌∙◌, subst, arith, Some, slice_get, ◌⊎◌, inl, inr}
 use Rattle.std.specs.Prelude.{◌||◌, ◌&&◌, ◌==◌, Contains}
-use Rattle.std.specs.List.{list_any, filter, All, AllByRecursion as Each}
+use Rattle.std.specs.List.{list_any, filter, AllByRecursion as Each}
 use Rattle.std.specs.Cmp.{booleans_Decides}
 use Rattle.std.proofs.lemmas.Bool.Decides.{Decides-eqb}
 use Rattle.std.proofs.lemmas.List.Elements.{All-weaker, All-contains, All-contains_itself, All-filter, All-from_recursion, recursion_from_All, filter_passes, Contains-append_left, Contains-append_right, Contains-append_cases}

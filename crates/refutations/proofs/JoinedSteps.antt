@@ -1,18 +1,18 @@
 -- The step that joins the two sides of a split is accepted: with the negation of its clause assumed,
 -- the first side forces the negation of the split, and then the second conflicts.
-use Rattle.std.proofs.Common.{◌≡◌, ◌≢◌, ℕ, ◌+◌, ◌-◌, ◌<◌, ◌≤◌, Bool, true, false, not, cond, List, [], ◌∷◌, length, refl, sym, ap, ◌∙◌, subst, Option, Some, None, slice_get, arith, inl, inr}
-use Rattle.std.specs.Prelude.{option_map, replicate, count_by, Contains, ◌&&◌, ◌||◌, ◌==◌}
+use Rattle.std.proofs.Common.{◌≡◌, ◌≢◌, ℕ, ◌+◌, ◌<◌, ◌≤◌, Bool, true, false, not, cond, List, [], ◌∷◌, length, refl, sym, ap, ◌∙◌, subst, Option, Some, None, arith, inl, inr}
+use Rattle.std.specs.Prelude.{option_map, replicate, Contains, ◌||◌}
 use Rattle.std.specs.List.{AllByRecursion as Each}
 use Rattle.std.proofs.lemmas.List.{length-replicate}
 use Rattle.std.proofs.lemmas.List.Folds.{list_any_at}
 use Rattle.count_core.specs.declared.lit.Lit.{Lit}
 use Rattle.count_core.specs.declared.hint.Hint.{Hint}
-use Rattle.count_core.specs.declared.hint.Hint.TheVariants.{Rule, Step as Earlier}
+use Rattle.count_core.specs.declared.hint.Hint.TheVariants.{Step as Earlier}
 use Rattle.count_core.specs.declared.count_rule.CountRule.{CountRule}
 use Rattle.count_core.specs.declared.step.Step.{Step}
 use Rattle.count_core.specs.Assignments.{negation, under_sign}
 use Rattle.count_core.specs.Problems.{Problem, mentions, repeats, are_within}
-use Rattle.count_core.specs.PartialAssignments.{PartialAssignment, value_at, has_sign, is_true, is_false, is_unset, trues, falses, unsets, conflicts, assign_all, ForcesAll}
+use Rattle.count_core.specs.PartialAssignments.{PartialAssignment, value_at, is_true, is_false, is_unset, trues, falses, unsets, conflicts, assign_all, ForcesAll}
 use Rattle.count_core.specs.Steps.{clause_rule, step_of, rule_at, assumed_negation, is_clause, LeadToConflict, IsAccepted, AreAccepted}
 use Rattle.count_core.proofs.Lists.{both_true, count_cons, count_none, count_each, any_counts}
 use Rattle.count_core.proofs.Assigning.{none_unset, unset_not_true, false_not_unset, false_not_true, false_by_value, nothing_set, length-assign_all, assign_all_other, assign_all_keeps}

@@ -1,7 +1,7 @@
 -- Where some of the candidate hints lead to a conflict, those that are kept do: what is set on the way
 -- is no less, since each candidate that forces in its turn is kept.
-use Rattle.std.proofs.Common.{◌≡◌, ◌≢◌, ℕ, ◌-◌, ◌<◌, ◌≤◌, Bool, true, false, cond, List, [], ◌∷◌, length, Option, Some, None, slice_get, refl, subst, sym, ap, ◌∙◌, ◌⊎◌, inl, inr, arith}
-use Rattle.std.specs.Prelude.{option_map, is_some, IsSome, ◌||◌, nat_lt}
+use Rattle.std.proofs.Common.{◌≡◌, ◌≤◌, Bool, true, false, cond, List, [], ◌∷◌, length, Option, Some, None, slice_get, refl, subst, sym, ◌∙◌, ◌⊎◌, inl, inr, arith}
+use Rattle.std.specs.Prelude.{option_map, IsSome}
 use Rattle.std.proofs.lemmas.Bool.Decides.{nat_tests}
 use Rattle.count_core.specs.declared.lit.Lit.{Lit}
 use Rattle.count_core.specs.declared.hint.Hint.{Hint}
@@ -9,8 +9,8 @@ use Rattle.count_core.specs.declared.hint.Hint.TheVariants.{Rule, Step as Earlie
 use Rattle.count_core.specs.declared.step.Step.{Step}
 use Rattle.count_core.specs.declared.count_rule.CountRule.{CountRule}
 use Rattle.count_core.specs.Problems.{Problem, IsWellFormedRule, IsWellFormed}
-use Rattle.count_core.specs.PartialAssignments.{PartialAssignment, falses, conflicts, forces, forced_assignment, IsExtendedBy}
-use Rattle.count_core.specs.Steps.{clause_rule, step_of, rule_at, assumed_negation, is_clause, LeadToConflict, IsAccepted}
+use Rattle.count_core.specs.PartialAssignments.{PartialAssignment, conflicts, forces, forced_assignment, IsExtendedBy}
+use Rattle.count_core.specs.Steps.{clause_rule, step_of, rule_at, assumed_negation, LeadToConflict, IsAccepted}
 use Rattle.count_core.proofs.Lists.{each_at}
 use Rattle.count_core.proofs.RuleEffects.{conflicts_is}
 use Rattle.count_core.proofs.Extensions.{length-forced, forced_extends, conflicts_up, forced_up, idle_stays}
