@@ -12,7 +12,7 @@ use Rattle.count_core.proofs.HintChecks.{accepted_by_conflict}
 use Rattle.refutations.specs.declared.leading.Turn.{Turn}
 use Rattle.refutations.specs.declared.leading.Turn.TheVariants.{Ends, Leads, Idle}
 use Rattle.refutations.specs.Leading.{keep_hint, leading, leading_hints, IsSublist}
-use Rattle.refutations.specs.Turns.{kept_in_turn, IsTurn}
+use Rattle.refutations.specs.HintTurns.{kept_in_turn, IsTurn}
 
 -- ---- one turn of a loop over the candidates, at the place i, with those kept so far
 

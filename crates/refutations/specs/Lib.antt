@@ -11,4 +11,4 @@ pub mod Cones
 pub mod NamedRules
 pub mod EarlierSteps
 pub mod JoinedClauses
-pub mod Turns
+pub mod HintTurns

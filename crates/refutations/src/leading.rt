@@ -1,7 +1,7 @@
 ghost use Rattle.std.specs.Prelude.{◌≡◌, option_map, replicate, IfOk, None};
 ghost use Rattle.count_core.specs.Steps.{rule_at};
 ghost use Rattle.refutations.specs.Leading as spec;
-ghost use Rattle.refutations.specs.Turns.{IsTurn};
+ghost use Rattle.refutations.specs.HintTurns.{IsTurn};
 
 use crate::assignment::Assignment;
 use crate::effect::{Effect, effect_of};

@@ -61,10 +61,12 @@ all_set p (l ∷ ls) all h = go (is_unset p l) refl (count_cons (is_unset p) l l
 
 rules_satisfied : (p : PartialAssignment) (atoms : ℕ) → length p ≡ atoms → AreAllSet p → (rs : List CountRule) → Each (IsWellFormedRule atoms) rs → Each (IsQuietConstraint p) rs → Each (SatisfiesRule (totals p)) rs
 rules_satisfied p atoms len all [] formed quiet = tt
-rules_satisfied p atoms len all (r ∷ rs) formed quiet =
-    (all_set_satisfies (totals p) p (totals_agree p) r.lits r.lo r.hi
-    (all_set p r.lits all (subst (λ n. Each (λ (l : Lit). l.atom.0 < n) r.lits) (sym len) (each_within atoms r.lits formed.0.in_range)))
-    quiet.0.0, rules_satisfied p atoms len all rs formed.1 quiet.1)
+rules_satisfied p atoms len all (r ∷ rs) formed quiet = (
+  all_set_satisfies (totals p) p (totals_agree p) r.lits r.lo r.hi
+      (all_set p r.lits all (subst (λ n. Each (λ (l : Lit). l.atom.0 < n) r.lits) (sym len) (each_within atoms r.lits formed.0.in_range)))
+      quiet.0.0,
+  rules_satisfied p atoms len all rs formed.1 quiet.1,
+)
 
 each_front : {X : Type 0} (P : X → Type 0) (xs ys : List X) → Each P (xs ++ ys) → Each P xs
 each_front P [] ys h = tt
@@ -82,9 +84,10 @@ own_sign false = refl
 -- and what was assumed is true
 pub asked_satisfied : (e : Engine) (question : List Lit) → IsSound e → AreAsked question e.entries → SatisfiesQuestion (totals (values_in e)) question
 asked_satisfied e [] sound h = tt
-asked_satisfied e (l ∷ ls) sound h =
-    (rw (totals_agree (values_in e) l.atom.0 l.positive (assumed_value e.problem e.clauses e.entries (replicate e.problem.atoms None) l sound.caused (h l (first_member ls l)))) (own_sign l.positive),
-    asked_satisfied e ls sound (λ m c. h m (later_member ls m l c)))
+asked_satisfied e (l ∷ ls) sound h = (
+  rw (totals_agree (values_in e) l.atom.0 l.positive (assumed_value e.problem e.clauses e.entries (replicate e.problem.atoms None) l sound.caused (h l (first_member ls l)))) (own_sign l.positive),
+  asked_satisfied e ls sound (λ m c. h m (later_member ls m l c)),
+)
 
 -- ---- a question that is assumed
 

@@ -35,9 +35,9 @@ module _ (ls : List Lit) (split : Lit) (first second : List Lit) (one : NegatesO
     where
       go : (x : Lit) → Contains clause x → Contains ls (negation x)
       go x c = let of = (is.literals x).0 c in elim of.0 [
-        inl here ↦ before_unlike ls split x (in_first x here) of.2
+        | inl here ↦ before_unlike ls split x (in_first x here) of.2
         | inr there ↦ before_unlike ls (negation split) x (in_second x there) (λ e. of.1 (e ∙ negation_twice split))
-        ]
+      ]
 
   -- no other atom stands in both with opposite signs, since each assumed literal has one value
   pub sides_of : (e : Engine) → IsSound e → assumed_of e.entries ≡ ls → Contains first (negation split) → Contains second split → AreSides split first second

@@ -58,23 +58,23 @@ negates_before ls l clause h lacks = each_of_members (λ x. Contains ls (negatio
   where
     go : (x : Lit) → Contains clause x → Contains ls (negation x)
     go x c = elim (Contains-push_cases ls l (negation x) (member_of_each (λ y. Contains (ls ++ l ∷ []) (negation y)) clause x h c)) [
-      inl before ↦ before
+      | inl before ↦ before
       | inr e ↦ absurd (lacks (subst (Contains clause) (sym (negation_of l x e)) c))
-      ]
+    ]
 
 -- a literal of such a clause over another atom than the last is the negation of one before it
 pub before_last : (ls : List Lit) (l x : Lit) → Contains (ls ++ l ∷ []) (negation x) → (x.atom ≡ l.atom → ⊥) → Contains ls (negation x)
 before_last ls l x c other = elim (Contains-push_cases ls l (negation x) c) [
-  inl before ↦ before
+  | inl before ↦ before
   | inr e ↦ absurd (other (sym (ap (λ (m : Lit). m.atom) e)))
-  ]
+]
 
 -- or is not the negation of the last
 pub before_unlike : (ls : List Lit) (l x : Lit) → Contains (ls ++ l ∷ []) (negation x) → (x ≡ negation l → ⊥) → Contains ls (negation x)
 before_unlike ls l x c other = elim (Contains-push_cases ls l (negation x) c) [
-  inl before ↦ before
+  | inl before ↦ before
   | inr e ↦ absurd (other (sym (negation_of l x e)))
-  ]
+]
 
 same_sign : (a b : Bool) → not a ≡ not b → a ≡ b
 same_sign true true e = refl

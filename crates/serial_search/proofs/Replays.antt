@@ -34,9 +34,9 @@ true_on q r w es h = each_map (λ (e : Entry). e.cause ≡ None → is_true q e.
 -- a literal more that is true in q
 with_true_within : (p q : PartialAssignment) (l : Lit) → IsExtendedBy p q → is_true q l ≡ true → IsExtendedBy (with_true p l) q
 with_true_within p q l w e k c f = elim (value_at_set p l.atom.0 l.positive k c f) [
-  inl v ↦ ap (value_at q) v.0 ∙ true_value q l e ∙ ap Some (sym v.1)
+  | inl v ↦ ap (value_at q) v.0 ∙ true_value q l e ∙ ap Some (sym v.1)
   | inr v ↦ w k c v
-  ]
+]
 
 -- What a cause names, `find` finds, and its bounds are in order where it does not conflict.
 pub record AreFound (find : Hint → Option CountRule) (problem : Problem) (clauses : List Clause) : Type 0 where
@@ -192,14 +192,15 @@ module _ (problem : Problem) (clauses : List Clause) where
 
       both : IsExtendedBy (slice_set q e.lit.atom.0 (Some e.lit.positive)) (with_true p e.lit)
       both a b k = elim (value_at_set q e.lit.atom.0 e.lit.positive a b k) [
-        inl v ↦ ap (value_at (with_true p e.lit)) v.0 ∙ value_at_same p e.lit.atom.0 e.lit.positive lt ∙ ap Some (sym v.1)
+        | inl v ↦ ap (value_at (with_true p e.lit)) v.0 ∙ value_at_same p e.lit.atom.0 e.lit.positive lt ∙ ap Some (sym v.1)
         | inr v ↦ kept a b (w a b v)
-        ]
+      ]
 
       go : (o : Option Hint) → ((s : PartialAssignment) → length (with_true p e.lit) ≡ length s → IsExtendedBy s (with_true p e.lit) → AreTrue (assign_all false (negations_of es) s) es)
           → (o ≡ None → is_true (assign_all false (map negation (or_assumed o e.lit (assumed_of es))) q) e.lit ≡ true)
           × AreTrue (assign_all false (map negation (or_assumed o e.lit (assumed_of es))) q) es
-      go None rest =
-          (λ n. value_true (assign_all false (negations_of es) (assign false (negation e.lit) q)) e.lit (assign_all_keeps false (negations_of es) (assign false (negation e.lit) q) e.lit.atom.0 e.lit.positive value_now),
-          rest (assign false (negation e.lit) q) (grown ∙ len ∙ sym same_length) (rw made both))
+      go None rest = (
+        λ n. value_true (assign_all false (negations_of es) (assign false (negation e.lit) q)) e.lit (assign_all_keeps false (negations_of es) (assign false (negation e.lit) q) e.lit.atom.0 e.lit.positive value_now),
+        rest (assign false (negation e.lit) q) (grown ∙ len ∙ sym same_length) (rw made both),
+      )
       go (Some x) rest = (λ n. cc, rest q (grown ∙ len) (λ a b k. kept a b (w a b k)))

@@ -108,12 +108,12 @@ StandsIn es l = (k : ℕ) × (e : Entry) × (slice_get es k ≡ Some e) × (e.li
 value_from : (es : List Entry) (p : PartialAssignment) (l : Lit) → value_at (extended p es) l.atom.0 ≡ Some l.positive → (value_at p l.atom.0 ≡ Some l.positive) ⊎ StandsIn es l
 value_from [] p l e = inl e
 value_from (x ∷ es) p l e = elim (value_from es (with_true p x.lit) l e) [
-  inl here ↦ elim (value_at_set p x.lit.atom.0 x.lit.positive l.atom.0 l.positive here) [
-    inl w ↦ inr (zero, x, refl, same w.0 w.1)
+  | inl here ↦ elim (value_at_set p x.lit.atom.0 x.lit.positive l.atom.0 l.positive here) [
+    | inl w ↦ inr (zero, x, refl, same w.0 w.1)
     | inr before ↦ inl before
-    ]
-  | inr s ↦ inr (suc s.0, s.1, s.2, s.3)
   ]
+  | inr s ↦ inr (suc s.0, s.1, s.2, s.3)
+]
   where
     same : l.atom.0 ≡ x.lit.atom.0 → l.positive ≡ x.lit.positive → x.lit ≡ l
     same a b =
@@ -140,9 +140,9 @@ value_true p l e = rw e (own_sign l.positive)
 
 stands : (atoms : ℕ) (es : List Entry) (l : Lit) → is_true (values_of atoms es) l ≡ true → StandsIn es l
 stands atoms es l e = elim (value_from es (replicate atoms None) l (true_value (values_of atoms es) l e)) [
-  inl none ↦ absurd (value_at_none atoms l.atom.0 l.positive none)
+  | inl none ↦ absurd (value_at_none atoms l.atom.0 l.positive none)
   | inr s ↦ s
-  ]
+]
 
 assumed_there : (es : List Entry) (k : ℕ) (e : Entry) → slice_get es k ≡ Some e → e.cause ≡ None → Contains (assumed_of es) e.lit
 assumed_there [] k e at none = cc
@@ -186,9 +186,9 @@ module _ (problem : Problem) (clauses : List Clause) where
 
       go : (o : Option Hint) → Contains (or_assumed o e.lit (assumed_of es)) l → (Contains (assumed_of es) l → value_at (extended (with_true p e.lit) es) l.atom.0 ≡ Some l.positive) → value_at (extended (with_true p e.lit) es) l.atom.0 ≡ Some l.positive
       go None c rest = elim (member_cases (assumed_of es) l e.lit c) [
-        inl same ↦ subst (λ (m : Lit). value_at (extended (with_true p e.lit) es) m.atom.0 ≡ Some m.positive) (sym same) here
+        | inl same ↦ subst (λ (m : Lit). value_at (extended (with_true p e.lit) es) m.atom.0 ≡ Some m.positive) (sym same) here
         | inr later ↦ rest later
-        ]
+      ]
       go (Some x) c rest = rest c
 
 -- ---- unset atoms

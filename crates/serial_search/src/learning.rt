@@ -27,8 +27,9 @@ pub(crate) fn learn(
     ensures entries { engine.new.entries ≡ engine.old.entries }
     ensures conflict { IsConflict engine.new conflict }
 {
-    let Proposal { clause, hints } =
-        work.analysis.unique_point(alloc, engine, log.steps(), conflict, level)?;
+    let Proposal { clause, hints } = work
+        .analysis
+        .unique_point(alloc, engine, log.steps(), conflict, level)?;
     let lits = clause.as_slice();
     let Some(number) = log.add_leading(alloc, lits, hints.as_slice())? else {
         return Ok(conflict);

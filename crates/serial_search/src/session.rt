@@ -74,11 +74,7 @@ impl Session {
 /// Answers the question, whose atoms are atoms of the session's problem: values that satisfy it and
 /// the problem, or a refutation. Where memory runs out, the session may have learnt more and stays
 /// usable.
-pub fn solve(
-    alloc: Global,
-    question: &Question,
-    session: &mut Session,
-) -> Result<Answer, NoMemory>
+pub fn solve(alloc: Global, question: &Question, session: &mut Session) -> Result<Answer, NoMemory>
     requires { are_within session.old.problem.atoms question.now ≡ true }
     ensures problem { IfOk result (λ a. a.problem ≡ session.old.problem) }
     ensures question { IfOk result (λ a. a.question ≡ question.now) }

@@ -128,12 +128,7 @@ fn ask(alloc: Global, session: &mut Session, question: &Question) -> Result<Repo
         Outcome::Possible { .. } => (true, 0),
         Outcome::Impossible { closed } => (false, closed.steps().len()),
     };
-    Ok((
-        possible,
-        steps,
-        session.opened(),
-        session.counts(),
-    ))
+    Ok((possible, steps, session.opened(), session.counts()))
 }
 
 /// Asks one question of a new session.
@@ -178,11 +173,19 @@ fn reports_in_turn(alloc: Global) -> Result<(Report, Report, Report), Fail> {
 #[test]
 fn clash_is_impossible_with_its_last_rules_alone(rt: HostRuntime) -> Result<(), Fail> {
     let alloc = rt.alloc();
-    let (possible, steps, opened, counts) =
-        first_report(alloc, raised(alloc, &CLASH, 0, 8)?, 8, &[])?;
+    let (possible, steps, opened, counts) = first_report(
+        alloc,
+        raised(alloc, &CLASH, 0, 8)?,
+        8,
+        &[],
+    )?;
     println!(&rt; "{possible} {steps} {opened} {counts:?}")?;
-    let (possible, steps, opened, counts) =
-        first_report(alloc, raised(alloc, &CLASH[..8], 0, 8)?, 8, &[])?;
+    let (possible, steps, opened, counts) = first_report(
+        alloc,
+        raised(alloc, &CLASH[..8], 0, 8)?,
+        8,
+        &[],
+    )?;
     println!(&rt; "{possible} {steps} {opened} {counts:?}")?;
     Ok(())
 }
@@ -190,8 +193,12 @@ fn clash_is_impossible_with_its_last_rules_alone(rt: HostRuntime) -> Result<(), 
 #[test]
 fn sibling_not_opened(rt: HostRuntime) -> Result<(), Fail> {
     let alloc = rt.alloc();
-    let (possible, steps, opened, counts) =
-        first_report(alloc, raised(alloc, &CLASH, 20, 28)?, 28, &[])?;
+    let (possible, steps, opened, counts) = first_report(
+        alloc,
+        raised(alloc, &CLASH, 20, 28)?,
+        28,
+        &[],
+    )?;
     println!(&rt; "{possible} {steps} {opened} {counts:?}")?;
     Ok(())
 }
