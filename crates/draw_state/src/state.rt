@@ -125,6 +125,13 @@ impl State {
         self.moves.pop()
     }
 
+    /// Whether both are one state: one file, and the same moves.
+    pub fn equals(&self, other: &State) -> bool
+        ensures { IsTrue result ↔ (self.now ≡ other.now) }
+    {
+        self.file().equals(other.file()) && self.moves() == other.moves()
+    }
+
     /// An equal state.
     pub fn clone_in(&self, alloc: Global) -> Result<State, NoMemory>
         ensures { IfOk result (λ s. s ≡ self.now) }
