@@ -129,7 +129,7 @@ impl State {
     pub fn equals(&self, other: &State) -> bool
         ensures { IsTrue result ↔ (self.now ≡ other.now) }
     {
-        self.file().equals(other.file()) && self.moves() == other.moves()
+        self.file().equals(other.file()) && same_moves(self.moves(), other.moves())
     }
 
     /// An equal state.
@@ -142,6 +142,13 @@ impl State {
             moves,
         })
     }
+}
+
+/// Whether the moves are the same, in the same order.
+fn same_moves(one: &[Move], other: &[Move]) -> bool
+    ensures { IsTrue result ↔ (one.now ≡ other.now) }
+{
+    one == other
 }
 
 /// Whether the move is a candidate's in the phase after the moves.
