@@ -10,10 +10,10 @@ ghost use Rattle.offer_engine.specs.Offers.{ComesOf, IsCompletion, KeepsAnswers,
 ghost use Rattle.offer_engine.specs.Questions.{AreOfProblem, IsFirstWrong, asked, question_of, questions};
 
 use crate::NoMemory;
+use crate::asking::{questions_of, state_with};
 use crate::encoded::Encoded;
 use crate::faults::OfferFault;
 use crate::offer::Offer;
-use crate::questions::{questions_of, state_with};
 use crate::standing::Standing;
 use count_core::Question;
 use draw_state::State;

@@ -10,23 +10,23 @@
 #![tactic(auto)]
 
 mod answering;
+mod asking;
 mod course;
 mod encoded;
 mod faults;
 mod laws;
 mod offer;
-mod questions;
 mod standing;
 #[cfg(test)]
 mod tests;
 mod turn;
 
 pub use answering::offer_from;
+pub use asking::questions;
 pub use encoded::Encoded;
 pub use faults::{OfferFault, TurnFault};
 pub use laws::law_ready_or_waiting;
 pub use offer::Offer;
-pub use questions::questions;
 pub use standing::Standing;
 pub use std::alloc::AllocError as NoMemory;
 pub use turn::Turn;

@@ -7,10 +7,10 @@ ghost use Rattle.offer_engine.specs.Faults.{IsTurnFault};
 ghost use Rattle.offer_engine.specs.Turns.{IsBegun, IsReady, Replies, Wants, after_of, with_offer};
 
 use crate::NoMemory;
+use crate::asking::state_with;
 use crate::course::Course;
 use crate::faults::TurnFault;
 use crate::offer::Offer;
-use crate::questions::state_with;
 use draw_state::{
     Action, Command, Moves, Reply, State, judge_command, law_offered_is_accepted,
     law_steps_below_limit,
@@ -50,7 +50,7 @@ impl Turn {
     pub fn begin(alloc: Global, before: Offer, command: Command) -> Result<Turn, NoMemory>
         ensures { IfOk result (λ t. IsBegun before command t) }
     {
-        let course = course_of(alloc, &before, command)?;
+        let course = course_of(alloc, &before, &command)?;
         Ok(Turn {
             before,
             command,
@@ -156,13 +156,13 @@ impl Turn {
 }
 
 /// What a command comes to: the refusal, or the state that its ball leads to.
-fn course_of(alloc: Global, before: &Offer, command: Command) -> Result<Course, NoMemory>
-    ensures { IfOk result (λ course. IsUngiven before.now.state command course) }
+fn course_of(alloc: Global, before: &Offer, command: &Command) -> Result<Course, NoMemory>
+    ensures { IfOk result (λ course. IsUngiven before.now.state command.now course) }
 {
     law_offered_is_accepted();
     law_steps_below_limit();
     let offered = before.offered(alloc)?;
-    match judge_command(before.state(), &offered, 0, command) {
+    match judge_command(before.state(), &offered, 0, *command) {
         Ok(Action::Ball(choice)) => {
             let course = taking(alloc, before.state(), choice)?;
             Ok(course)
