@@ -10,6 +10,7 @@ use crate::NoMemory;
 use crate::asking::state_with;
 use crate::course::Course;
 use crate::faults::TurnFault;
+use crate::laws::law_ready_or_waiting;
 use crate::offer::Offer;
 use draw_state::{
     Action, Command, Moves, Reply, State, judge_command, law_offered_is_accepted,
@@ -77,9 +78,11 @@ impl Turn {
         ensures wanted { IfSome result (λ next. Wants self.now next.now) }
         ensures ready { IsNone result ↔ IsReady self.now }
     {
+        law_ready_or_waiting();
         match &self.course {
+            Course::Refused { reply: _ } => None,
             Course::Waiting { next, added: _ } => Some(next),
-            _ => None,
+            Course::Taken { reply: _, after: _ } => None,
         }
     }
 
@@ -115,6 +118,7 @@ impl Turn {
         ensures reply { IfSome result (λ r. Replies self.now r.now) }
         ensures ready { IsSome result ↔ IsReady self.now }
     {
+        law_ready_or_waiting();
         match &self.course {
             Course::Refused { reply } => Some(reply),
             Course::Waiting { next: _, added: _ } => None,
@@ -128,6 +132,7 @@ impl Turn {
         ensures after { IfSome result (λ offer. offer.now ≡ after_of self.now) }
         ensures ready { IsSome result ↔ IsReady self.now }
     {
+        law_ready_or_waiting();
         match &self.course {
             Course::Refused { reply: _ } => Some(&self.before),
             Course::Waiting { next: _, added: _ } => None,
@@ -142,6 +147,7 @@ impl Turn {
         ensures after { result.1 ≡ after_of self }
         ensures file { result.1.state.file ≡ self.before.state.file }
     {
+        law_ready_or_waiting();
         let Turn {
             before,
             command: _,
