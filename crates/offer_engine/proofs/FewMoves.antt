@@ -38,8 +38,8 @@ count_lt : {A : Type 0} (p q : A → Bool) → ((x : A) → q x ≡ true → p x
 count_lt p q less [] k x e holds fails = cc
 count_lt p q less (y ∷ ys) zero x e holds fails =
     let same = same_item y x e in
-    let some : cond (p y) 1 0 ≡ 1 = rw (ap p same ∙ holds) refl in
-    let none : cond (q y) 1 0 ≡ 0 = rw (ap q same ∙ fails) refl in
+    let some : ◌≡◌ {A = ℕ} (cond (p y) 1 0) 1 = rw (ap p same ∙ holds) refl in
+    let none : ◌≡◌ {A = ℕ} (cond (q y) 1 0) 0 = rw (ap q same ∙ fails) refl in
     omega (arith, some, none, count_le q p ys less, count_cons p y ys, count_cons q y ys)
 count_lt p q less (y ∷ ys) (suc k) x e holds fails =
     omega (arith, count_lt p q less ys k x e holds fails, bits (q y) (p y) (less y), count_cons p y ys, count_cons q y ys)

@@ -41,19 +41,10 @@ question_later state later c h =
 
 -- one question more
 pub within_push : (atoms : ℕ) (qs : List (List Lit)) (q : List Lit) → AreWithin atoms qs → are_within atoms q ≡ true → AreWithin atoms (qs ++ q ∷ [])
-within_push atoms [] q all own x among = at among.0 among.1
-  where
-    at : (k : ℕ) → slice_get (q ∷ []) k ≡ Some x → are_within atoms x ≡ true
-    at zero e = subst (λ y. are_within atoms y ≡ true) (same_item q x e) own
-    at (suc k) e = cc
-within_push atoms (r ∷ qs) q all own x among = at among.0 among.1
-  where
-    later : AreWithin atoms (qs ++ q ∷ [])
-    later = within_push atoms qs q (λ y h. all y (suc h.0, h.1)) own
-
-    at : (k : ℕ) → slice_get (r ∷ (qs ++ q ∷ [])) k ≡ Some x → are_within atoms x ≡ true
-    at zero e = all x (0, e)
-    at (suc k) e = later x (k, e)
+within_push atoms [] q all own x (zero, e) = subst (λ y. are_within atoms y ≡ true) (same_item q x e) own
+within_push atoms [] q all own x (suc k, e) = cc
+within_push atoms (r ∷ qs) q all own x (zero, e) = all x (0, e)
+within_push atoms (r ∷ qs) q all own x (suc k, e) = within_push atoms qs q (λ y h. all y (suc h.0, h.1)) own x (k, e)
 
 -- ---- lists by their places
 

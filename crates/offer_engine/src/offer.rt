@@ -91,9 +91,10 @@ fn offered_of(alloc: Global, standings: &[(Choice, Standing)]) -> Result<Vec<Cho
 {
     let mut choices = Vec::new(alloc);
     for (choice, standing) in standings {
-        if let Standing::Offered(_) = standing {
-            choices.push(*choice)?;
-        }
+        let Standing::Offered(_) = standing else {
+            continue;
+        };
+        choices.push(*choice)?;
     }
     Ok(choices)
 }
