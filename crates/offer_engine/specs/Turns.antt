@@ -65,6 +65,10 @@ Wants turn next = (more : List State) × Needs turn.before.state turn.command (s
 abbrev pub ReadyOrWaiting : Type 0
 ReadyOrWaiting = (turn : Turn) (next : State) → IsReady turn → ¬ Wants turn next
 
+-- It wants the offer of one state.
+abbrev pub OneWanted : Type 0
+OneWanted = (turn : Turn) (a b : State) → Wants turn a → Wants turn b → a ≡ b
+
 -- the last of the offers, or the one before them where there are none
 abbrev pub last_of : Offer → List Offer → Offer
 last_of before [] = before

@@ -25,7 +25,7 @@ pub use answering::offer_from;
 pub use asking::questions;
 pub use encoded::Encoded;
 pub use faults::{OfferFault, TurnFault};
-pub use laws::law_ready_or_waiting;
+pub use laws::{law_one_wanted, law_ready_or_waiting};
 pub use offer::Offer;
 pub use standing::Standing;
 pub use std::alloc::AllocError as NoMemory;

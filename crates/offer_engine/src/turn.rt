@@ -1,6 +1,7 @@
 ghost use Rattle.std.specs.Prelude.{◌≡◌, ◌↔◌, length, IfErr, IfOk, IfSome, IsNone, IsSome, OnErr, OnOk};
 ghost use Rattle.draw_tables.specs.Lists.{IsAmong};
 ghost use Rattle.draw_tables.specs.States.{candidates};
+ghost use Rattle.draw_state.specs.declared.commands.Action.{Action as ActionValue};
 ghost use Rattle.draw_state.specs.State.{State as StateValue};
 ghost use Rattle.offer_engine.specs.Courses.{IsUngiven, TakesBall, TellsTaken};
 ghost use Rattle.offer_engine.specs.Faults.{IsTurnFault};
@@ -10,13 +11,13 @@ use crate::NoMemory;
 use crate::asking::state_with;
 use crate::course::Course;
 use crate::faults::TurnFault;
-use crate::laws::law_ready_or_waiting;
+use crate::laws::{law_one_wanted, law_ready_or_waiting};
 use crate::offer::Offer;
 use draw_state::{
     Action, Command, Moves, Reply, State, judge_command, law_offered_is_accepted,
     law_steps_below_limit,
 };
-use draw_tables::Choice;
+use draw_tables::{Choice, law_offered_where_possible};
 use rule_sets::law_files_have_form;
 use std::alloc::Global;
 use std::marker::Model;
@@ -95,6 +96,8 @@ impl Turn {
         ensures fault { IfErr result (λ f. IsTurnFault self.old offer f) }
         ensures kept { OnErr result (self.new ≡ self.old) }
     {
+        law_one_wanted();
+        law_ready_or_waiting();
         let Course::Waiting { next, added } = &self.course else {
             unreachable!()
         };
@@ -167,15 +170,25 @@ fn course_of(alloc: Global, before: &Offer, command: &Command) -> Result<Course,
 {
     law_offered_is_accepted();
     law_steps_below_limit();
+    law_offered_where_possible();
     let offered = before.offered(alloc)?;
     match judge_command(before.state(), &offered, 0, *command) {
-        Ok(Action::Ball(choice)) => {
-            let course = taking(alloc, before.state(), choice)?;
+        Ok(action) => {
+            let course = taking(alloc, before.state(), ball_of(action))?;
             Ok(course)
         }
         Err(refusal) => Ok(Course::Refused {
             reply: Reply::Refused(refusal),
         }),
+    }
+}
+
+/// The choice of the ball that an action is.
+fn ball_of(action: Action) -> Choice
+    ensures { action ≡ ActionValue.Ball result }
+{
+    match action {
+        Action::Ball(choice) => choice,
     }
 }
 

@@ -27,7 +27,7 @@ pub loop-place-preserved : goal.loop-place-preserved
 loop-place-preserved c =
     let i = c.loop-place.place in
     let choice = get_or c.args.choices.now i none in
-    let s = (choice, c.in_ok-standing.standing) in
+    let s : Choice × Standing = (choice, c.in_ok-standing.standing) in
     let many = as_many_answers c.args.state.now.file c.args.state.now.moves c.args.choices.now c.args.answers.now c.requires.asked in
     let there = slice_get_read c.args.answers.now (length c.args.answers.now) i c.index-answers-place.result refl (omega arith) c.index-answers-place.is in
     let question = answer_at c.args.state.now.file c.args.state.now.moves c.args.choices.now c.args.answers.now i choice c.index-answers-place.result
