@@ -35,8 +35,6 @@ pub(crate) fn questions_of(alloc: Global, state: &State) -> Result<Vec<Question>
     ensures within { IfOk result (λ v. AreWithin (rules_of state.now.file).atoms v.items) }
     ensures few { IfOk result (λ v. length v.items < number_limit) }
 {
-    state.file().kind();
-    law_files_have_form();
     match state.phase() {
         Phase::Runner => question_alone(alloc, state),
         Phase::Opponent { runner: _ } => questions_of_candidates(alloc, state),
@@ -60,7 +58,10 @@ fn questions_of_candidates(alloc: Global, state: &State) -> Result<Vec<Question>
         ≡ map (question_of state.now.file state.now.moves)
         (candidates state.now.file state.now.moves)) }
     ensures within { IfOk result (λ v. AreWithin (rules_of state.now.file).atoms v.items) }
+    ensures few { IfOk result (λ v. length v.items < number_limit) }
 {
+    state.file().kind();
+    law_files_have_form();
     let choices = state.candidates(alloc)?;
     let asked = questions_of_choices(alloc, state, &choices)?;
     Ok(asked)

@@ -11,5 +11,5 @@ returns c =
     let rest = drop n next.moves in
     let few : length rest ≤ length next.moves - n = omega (arith, length-drop n next.moves) in
     let all : take (length next.moves - n) rest ≡ rest = take_all (length next.moves - n) rest few in
-    let items : c.in_ok-added.added.items ≡ rest = ? in
+    let items : c.in_ok-added.added.items ≡ rest = (rw (c.moves.ensures, c.moves-2.ensures) at c.in_ok-added.ensures.items) ∙ all in
     takes_ball state next c.args.choice c.new.result c.in_ok-next.ensures (c.new.ensures ∙ items)
