@@ -2,4 +2,4 @@
 pub mod Countable
 pub mod Checks
 -- what a hint names, as the code has it
-pub mod Named
+pub mod NamedRules

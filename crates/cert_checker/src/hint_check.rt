@@ -3,7 +3,7 @@ ghost use Rattle.count_core.specs.Steps.{rule_at, failing_from, failing_hint};
 
 use crate::assignment::Assignment;
 use crate::effect::{Effect, effect_of};
-use crate::named::rule_at;
+use crate::named_rule::rule_at;
 use count_core::{Hint, Problem, Step};
 
 /// The failing hint of the step after the earlier ones, or none where it is accepted. Begins and
@@ -19,13 +19,13 @@ pub(crate) fn failing_hint(
     ensures within { IfSome result (λ i. i ≤ length step.now.hints) }
     ensures clean { assignment.new ≡ replicate problem.now.atoms None }
 {
-    let failing = failing_under_negation(assignment, problem, earlier, step);
+    let failing = failing_hint_under_negation(assignment, problem, earlier, step);
     assignment.clear();
     failing
 }
 
 /// The same: assumes the negation of the step's clause, and checks the hints.
-fn failing_under_negation(
+fn failing_hint_under_negation(
     assignment: &mut Assignment,
     problem: &Problem,
     earlier: &[Step],

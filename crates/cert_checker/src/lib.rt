@@ -13,7 +13,7 @@ mod checking;
 mod countable;
 mod effect;
 mod hint_check;
-mod named;
+mod named_rule;
 #[cfg(test)]
 mod tests;
 

@@ -36,6 +36,37 @@ sign_once false (Some false) e = refl
 pub true_not_false : (p : PartialAssignment) (l : Lit) → is_true p l ≡ true → is_false p l ≡ false
 true_not_false p l e = sign_once l.positive (value_at p l.atom.0) e
 
+-- an unset literal is not true; a false one is neither unset nor true
+pub unset_not_true : (p : PartialAssignment) (l : Lit) → is_unset p l ≡ true → is_true p l ≡ false
+unset_not_true p l unset = go (is_true p l) unset
+  where
+    go : (t : Bool) → (not t && not (is_false p l)) ≡ true → t ≡ false
+    go true e = cc
+    go false e = refl
+
+pub false_not_unset : (p : PartialAssignment) (l : Lit) → is_false p l ≡ true → is_unset p l ≡ true → ⊥
+false_not_unset p l e unset = go (is_true p l) (is_false p l) e unset
+  where
+    go : (t f : Bool) → f ≡ true → (not t && not f) ≡ true → ⊥
+    go true f e u = cc
+    go false true e u = cc
+    go false false e u = cc
+
+pub false_not_true : (p : PartialAssignment) (l : Lit) → is_false p l ≡ true → is_true p l ≡ false
+false_not_true p l e = go (is_true p l) refl
+  where
+    go : (t : Bool) → is_true p l ≡ t → t ≡ false
+    go true is = let no = true_not_false p l is in cc
+    go false is = refl
+
+-- a literal is false by the value of its atom
+pub false_by_value : (p : PartialAssignment) (l : Lit) → value_at p l.atom.0 ≡ Some (under_sign l.positive false) → is_false p l ≡ true
+false_by_value p l e = rw e (go l.positive)
+  where
+    go : (b : Bool) → has_sign (not b) (Some (under_sign b false)) ≡ true
+    go true = refl
+    go false = refl
+
 -- ---- one atom set
 
 -- a value after an atom was set is that one, at that atom, or was there before
@@ -72,6 +103,14 @@ pub value_at_none : (n k : ℕ) (c : Bool) → value_at (replicate n None) k ≡
 value_at_none zero k c e = cc
 value_at_none (suc n) zero c e = cc
 value_at_none (suc n) (suc k) c e = value_at_none n k c e
+
+-- where nothing is set, no atom has a value
+pub nothing_set : (n k : ℕ) → value_at (replicate n None) k ≡ None
+nothing_set n k = go (value_at (replicate n None) k) refl
+  where
+    go : (o : Option Bool) → value_at (replicate n None) k ≡ o → o ≡ None
+    go None is = refl
+    go (Some c) is = absurd (value_at_none n k c is)
 
 -- ---- literals made true or false
 

@@ -11,14 +11,17 @@ pub mod FirstFaults
 -- ---- partial assignments
 -- the value of an atom, and literals made true or false
 pub mod Assigning
+-- the value of one atom after literals are made true or false
+pub mod AtomValues
 -- what was set, noted on a trail and unset again
 pub mod Trails
 -- the negation of a clause assumed literal by literal
 pub mod AssumedNegations
 -- what a rule says by the numbers of its true and false literals
 pub mod RuleEffects
--- assignments that extend a partial one
+-- assignments that extend a partial one, whole ones and partial ones
 pub mod Agreement
+pub mod Extensions
 -- ---- steps
 -- hints checked one by one, and acceptance as a whole
 pub mod HintChecks

@@ -81,6 +81,15 @@ bits_cover false false le = absurd (omega arith)
 pub count_cons : {X : Type 0} (p : X → Bool) (x : X) (xs : List X) → count_by p (x ∷ xs) ≡ cond (p x) 1 0 + count_by p xs
 count_cons p x xs = sum_by-cons (λ x. cond (p x) 1 0) x xs
 
+-- where none passes, the count is 0; where each passes, it is the length
+pub count_none : {X : Type 0} (p : X → Bool) (xs : List X) → Each (λ x. p x ≡ false) xs → count_by p xs ≡ 0
+count_none p [] h = refl
+count_none p (x ∷ xs) h = rw (count_cons p x xs, h.0) (omega (arith, count_none p xs h.1))
+
+pub count_each : {X : Type 0} (p : X → Bool) (xs : List X) → Each (λ x. p x ≡ true) xs → count_by p xs ≡ length xs
+count_each p [] h = refl
+count_each p (x ∷ xs) h = rw (count_cons p x xs, h.0) (omega (arith, count_each p xs h.1))
+
 module _ {X : Type 0} (p q : X → Bool) where
   -- what passes p passes q
   pub count_le : (xs : List X) → ((x : X) → p x ≡ true → q x ≡ true) → count_by p xs ≤ count_by q xs

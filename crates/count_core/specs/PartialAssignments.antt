@@ -82,3 +82,7 @@ pub record ForcesAll (p : PartialAssignment) (ls : List Lit) (lo hi : ℕ) (trut
 -- The assignment extends the partial one: what is set has its value there.
 abbrev pub Agrees : List Bool → PartialAssignment → Type 0
 Agrees values p = (a : ℕ) (b : Bool) → value_at p a ≡ Some b → value_of values a ≡ b
+
+-- The second assignment extends the first: what the first sets, the second sets alike.
+abbrev pub IsExtendedBy : PartialAssignment → PartialAssignment → Type 0
+IsExtendedBy p q = (a : ℕ) (b : Bool) → value_at p a ≡ Some b → value_at q a ≡ Some b

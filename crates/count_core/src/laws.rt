@@ -4,9 +4,9 @@ ghost use Rattle.count_core.specs.Clash.{ClashTable};
 ghost use Rattle.count_core.specs.FirstFaults.{TellsFirstFault};
 ghost use Rattle.count_core.specs.FailingHints.{TellsFailingHint};
 
-/// The fault of rules that is reported is the first of the first rule that has one: each rule before
-/// it is well formed, and no fault with a lower number holds of it. There is none exactly where each
-/// rule is well formed.
+/// The fault of rules that is reported is the first of the first rule that has one: each rule
+/// before it is well formed, and no fault with a lower number holds of it. There is none exactly
+/// where each rule is well formed.
 pub fn law_first_fault()
     ensures { TellsFirstFault }
 {}

@@ -14,7 +14,7 @@ use Rattle.count_core.specs.PartialAssignments.{PartialAssignment, forced_assign
 use Rattle.count_core.specs.Steps.{clause_rule, rule_at, assumed_negation, LeadToConflict, IsAccepted, AreAccepted}
 use Rattle.count_core.proofs.HintChecks.{accepted_by_conflict}
 use Rattle.count_core.proofs.Renumbering.{accepted_at}
-use Rattle.refutations.specs.Earlier.{IsBelow, AreEarlier}
+use Rattle.refutations.specs.EarlierSteps.{IsBelow, AreEarlier}
 use Rattle.refutations.specs.Cones.{is_to}
 
 named_below : (problem : Problem) (earlier : List Step) (h : Hint) (r : CountRule) → rule_at problem earlier h ≡ Some r → IsBelow (length earlier) h

@@ -5,6 +5,15 @@ pub mod LastSteps
 pub mod EarlierSteps
 -- accepted steps put behind others, with shifted hints
 pub mod Shifting
+-- candidate hints that are kept
+pub mod KeptHints
+-- they are there where some candidates lead to a conflict
+pub mod PartLeads
+-- ---- sides joined
+-- literals of lists over different atoms, and the clause that joins two sides
+pub mod JoinedLits
+-- the step that joins two sides is accepted
+pub mod JoinedSteps
 -- ---- cones
 -- marks of the steps that a step reaches, set from the last step down
 pub mod Marking

@@ -4,7 +4,7 @@ use Rattle.std.specs.Prelude.{slice_set, ◌||◌, ◌==◌}
 use Rattle.std.specs.List.{list_any}
 use Rattle.std.proofs.lemmas.Bool.Decides.{Decides-eqb}
 use Rattle.count_core.specs.declared.step.Step.{Step}
-use Rattle.refutations.specs.Earlier.{AreEarlier}
+use Rattle.refutations.specs.EarlierSteps.{AreEarlier}
 use Rattle.refutations.specs.Cones.{is_to, AddsNamed, Names, Reaches, itself, onward, is_in}
 use Rattle.refutations.proofs.EarlierSteps.{any_below}
 

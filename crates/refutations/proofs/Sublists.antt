@@ -14,7 +14,7 @@ use Rattle.count_core.specs.Steps.{rule_at, IsAccepted, AreAcceptedAfter, AreAcc
 use Rattle.count_core.proofs.Lists.{count_cons, get_middle}
 use Rattle.count_core.proofs.Renumbering.{mapped_name_the_same, accepted_moved, step_named}
 use Rattle.refutations.specs.Derivations.{clause_of, clause_at, last_clause, IsLemma}
-use Rattle.refutations.specs.Earlier.{IsBelow, ArePlaces, by_place, by_places}
+use Rattle.refutations.specs.EarlierSteps.{IsBelow, ArePlaces, by_place, by_places}
 use Rattle.refutations.specs.Cones.{is_to, Names, itself, onward, is_in, number_below, placed_hint, placed_step, sublist, IsCone}
 use Rattle.refutations.proofs.LastSteps.{step_there}
 use Rattle.refutations.proofs.Marking.{or_right}

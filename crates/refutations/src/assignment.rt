@@ -40,7 +40,7 @@ impl Assignment {
     }
 
     /// So many atoms, all unset, and room to note each on the trail.
-    pub(crate) fn unset(alloc: Global, atoms: usize) -> Result<Assignment, AllocError>
+    pub(crate) fn of_atoms(alloc: Global, atoms: usize) -> Result<Assignment, AllocError>
         ensures { IfOk result (λ a. a ≡ replicate atoms None) }
     {
         let values: Vec<Option<bool>> = vec![in alloc; None; atoms]?;

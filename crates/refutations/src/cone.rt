@@ -1,7 +1,7 @@
 ghost use Rattle.std.specs.Prelude.{◌≡◌, ◌↔◌, ◌+◌, ◌-◌, ◌<◌, ◌≤◌, ◌||◌, ℕ, true, length, map, IfOk};
 ghost use Rattle.std.specs.List.{AllByRecursion};
 ghost use Rattle.count_core.specs.Limits.{number_limit};
-ghost use Rattle.refutations.specs.Earlier.{IsBelow, AreEarlier, ArePlaces, by_place, by_places};
+ghost use Rattle.refutations.specs.EarlierSteps.{IsBelow, AreEarlier, ArePlaces, by_place, by_places};
 ghost use Rattle.refutations.specs.Cones as spec;
 
 use count_core::{Hint, Hints, Step};

@@ -2,7 +2,7 @@ ghost use Rattle.std.specs.Prelude.{◌≡◌, ◌≤◌, length, replicate, opt
 ghost use Rattle.count_core.specs.Problems.{repeats, are_within};
 ghost use Rattle.count_core.specs.PartialAssignments.{is_unset, assign_all};
 ghost use Rattle.count_core.specs.Steps as spec;
-ghost use Rattle.refutations.specs.Named.{rule_of};
+ghost use Rattle.refutations.specs.NamedRules.{rule_of};
 
 use crate::assignment::Assignment;
 use crate::effect::{Effect, effect_of};
@@ -10,10 +10,10 @@ use count_core::{Hint, Lit, Problem, Step};
 
 /// A rule or a clause, as its literals and bounds.
 #[derive(Clone, Copy)]
-struct Named<'a> {
-    lits: &'a [Lit],
-    lo: usize,
-    hi: usize,
+pub(crate) struct NamedRule<'a> {
+    pub(crate) lits: &'a [Lit],
+    pub(crate) lo: usize,
+    pub(crate) hi: usize,
 }
 
 /// The failing hint of a step after the earlier ones, from 0, or none where it is accepted. Begins
@@ -38,7 +38,7 @@ pub(crate) fn failing_hint(
 }
 
 /// Whether each literal is over an atom below the number.
-fn are_within(atoms: u32, lits: &[Lit]) -> bool
+pub(crate) fn are_within(atoms: u32, lits: &[Lit]) -> bool
     ensures { result ≡ are_within atoms lits.now }
 {
     lits.iter().all(|lit| lit.atom.0 < atoms)
@@ -46,7 +46,7 @@ fn are_within(atoms: u32, lits: &[Lit]) -> bool
 
 /// Assumes the negation of the clause: makes each literal false. Answers whether no two of them are
 /// over one atom; if two are, some stay as they are.
-fn assume_negation(assignment: &mut Assignment, clause: &[Lit]) -> bool
+pub(crate) fn assume_negation(assignment: &mut Assignment, clause: &[Lit]) -> bool
     requires unset { assignment.old ≡ replicate (length assignment.old) None }
     requires within { are_within (length assignment.old) clause.now ≡ true }
     ensures distinct { result ≡ not (repeats clause.now) }
@@ -71,13 +71,17 @@ fn is_set(values: &[Option<bool>], lit: Lit) -> bool
 }
 
 /// The rule or the clause that a hint names, if there is one.
-fn find_rule<'a>(problem: &'a Problem, earlier: &'a [Step], hint: Hint) -> Option<Named<'a>>
+pub(crate) fn find_rule<'a>(
+    problem: &'a Problem,
+    earlier: &'a [Step],
+    hint: Hint,
+) -> Option<NamedRule<'a>>
     ensures { option_map rule_of result ≡ spec.rule_at problem.now earlier.now hint }
 {
     match hint {
         Hint::Rule(number) => {
             let rule = problem.rules().get(number as usize)?;
-            Some(Named {
+            Some(NamedRule {
                 lits: rule.lits.as_slice(),
                 lo: rule.lo as usize,
                 hi: rule.hi as usize,
@@ -86,7 +90,7 @@ fn find_rule<'a>(problem: &'a Problem, earlier: &'a [Step], hint: Hint) -> Optio
         Hint::Step(number) => {
             let step = earlier.get(number as usize)?;
             let lits = step.clause.as_slice();
-            Some(Named {
+            Some(NamedRule {
                 lits,
                 lo: 1,
                 hi: lits.len(),
@@ -121,7 +125,7 @@ fn failing_from(
 }
 
 /// Makes each literal whose atom has no value true or false.
-fn assign_all(assignment: &mut Assignment, lits: &[Lit], truth: bool)
+pub(crate) fn assign_all(assignment: &mut Assignment, lits: &[Lit], truth: bool)
     ensures { assignment.new ≡ assign_all truth lits.now assignment.old }
 {
     for lit in lits {

@@ -1,8 +1,12 @@
-ghost use Rattle.std.specs.Prelude.{◌≡◌, ◌+◌, ◌<◌, ◌⊎◌, [], ℕ, length, take, replicate, None, IfOk, IfErr, OnOk, OnErr, IsErrOf};
+ghost use Rattle.std.specs.Prelude.{◌≡◌, ◌+◌, ◌<◌, ◌⊎◌, [], ℕ, true, length, take, replicate, option_map, None, IsSome, IfSome, IfNone, IfOk, IfErr, OnOk, OnErr, IsErrOf};
 ghost use Rattle.std.specs.Arc.{arc_value};
 ghost use Rattle.count_core.specs.Limits.{number_limit};
-ghost use Rattle.count_core.specs.Steps.{step_of, AreAccepted, NegatesOnly, failing_hint as hint_that_fails};
+ghost use Rattle.count_core.specs.Problems.{IsWellFormed};
+ghost use Rattle.count_core.specs.Steps.{step_of, is_clause, AreAccepted, NegatesOnly, failing_hint as hint_that_fails};
 ghost use Rattle.refutations.specs.Derivations as spec;
+ghost use Rattle.refutations.specs.JoinedClauses.{joined_clause as clause_joined};
+ghost use Rattle.refutations.specs.Joins as joins;
+ghost use Rattle.refutations.specs.Leading as leads;
 ghost use Rattle.refutations.specs.Shifts.{ArePutBehind};
 ghost use Rattle.refutations.specs.Cones.{IsCone};
 
@@ -10,6 +14,8 @@ use crate::assignment::Assignment;
 use crate::closed::Closed;
 use crate::cone::cone_of;
 use crate::hint_check::failing_hint;
+use crate::join::joined_clause;
+use crate::leading::leading_hints;
 use crate::lemma::Lemma;
 use crate::log_fault::LogFault;
 use crate::shift::shifted_steps;
@@ -108,6 +114,107 @@ impl ProofLog {
         Ok(number)
     }
 
+    /// Adds the step of the clause by those of the candidate hints that lead on, and answers its
+    /// number: with the clause's negation assumed, a candidate that forces in its turn is kept, one
+    /// that does not is ignored, and the first that conflicts is the last. Answers none, and the log
+    /// stays as it is, where no candidate conflicts in its turn, or the clause has an atom out of
+    /// range or one atom twice.
+    pub fn add_leading(
+        &mut self,
+        alloc: Global,
+        clause: &[Lit],
+        hints: &[Hint],
+    ) -> Result<Option<u32>, NoMemory>
+        ensures number { IfOk result (λ o. IfSome o (λ n. n ≡ length self.old.steps)) }
+        ensures added { IfOk result (λ o. IfSome o (λ n.
+            leads.GainsLeading self.old self.new clause.now hints.now)) }
+        ensures clause { IfOk result (λ o. IfSome o (λ n.
+            spec.clause_at self.new.steps n ≡ clause.now)) }
+        ensures accepted { IfOk result (λ o. IfSome o (λ n.
+            is_clause self.old.problem clause.now ≡ true)) }
+        ensures none { IfOk result (λ o. IfNone o (self.new ≡ self.old)) }
+        ensures leads { leads.LeadOn self.old clause.now hints.now
+            → IfOk result (λ o. IsSome o) }
+        ensures complete { leads.CanBeAccepted self.old clause.now hints.now
+            → IfOk result (λ o. IsSome o) }
+        ensures problem { self.new.problem ≡ self.old.problem }
+        ensures unchanged { OnErr result (self.new ≡ self.old) }
+    {
+        let Some(kept) = filter_hints(
+            alloc,
+            &mut self.assignment,
+            &self.problem,
+            self.steps.as_slice(),
+            clause,
+            hints,
+        )?
+        else {
+            return Ok(None);
+        };
+        let number = push_step(alloc, &mut self.steps, clause, kept.as_slice())?;
+        Ok(Some(number))
+    }
+
+    /// Joins the steps of the two sides of a split. Where the first step's clause holds the split's
+    /// negation, there is a second step, whose clause holds the split, and no other atom stands in
+    /// both clauses with opposite signs: adds an accepted step whose clause has the literals of both
+    /// without the split and its negation, each once, and answers its number. Else there is no
+    /// second step, and the first is answered and nothing changes.
+    pub fn join_sides(
+        &mut self,
+        alloc: Global,
+        split: Lit,
+        first: u32,
+        second: Option<u32>,
+    ) -> Result<u32, NoMemory>
+        requires first { first < length self.old.steps }
+        requires second { IfSome second (λ n. n < length self.old.steps) }
+        requires alone { IfNone second (¬ (joins.Denies self.old first split)) }
+        requires sides { IfSome second (λ n. joins.AreSideSteps self.old split first n) }
+        ensures number { IfOk result (λ n. n < length self.new.steps) }
+        ensures kept { IfNone second (self.new ≡ self.old) }
+        ensures same { IfNone second (IfOk result (λ n. n ≡ first)) }
+        ensures joined { IfSome second (λ m. IfOk result (λ n.
+            joins.JoinsSteps self.old split first m (spec.clause_at self.new.steps n))) }
+        ensures one { IfSome second (λ m. IfOk result (λ n.
+            joins.GainsStep self.old.steps self.new.steps n)) }
+        ensures added { OnOk result (joins.AreContinued self.old.steps self.new.steps) }
+        ensures problem { self.new.problem ≡ self.old.problem }
+        ensures unchanged { OnErr result (self.new ≡ self.old) }
+    {
+        match second {
+            Some(second) => self.add_joined(alloc, split, first, second),
+            None => Ok(first),
+        }
+    }
+
+    /// Adds the step that joins two.
+    fn add_joined(
+        &mut self,
+        alloc: Global,
+        split: Lit,
+        first: u32,
+        second: u32,
+    ) -> Result<u32, NoMemory>
+        requires first { first < length self.old.steps }
+        requires second { second < length self.old.steps }
+        requires sides { joins.AreSideSteps self.old split first second }
+        ensures number { IfOk result (λ n. n ≡ length self.old.steps) }
+        ensures joined { IfOk result (λ n.
+            joins.JoinsSteps self.old split first second (spec.clause_at self.new.steps n)) }
+        ensures one { IfOk result (λ n. joins.GainsStep self.old.steps self.new.steps n) }
+        ensures problem { self.new.problem ≡ self.old.problem }
+        ensures unchanged { OnErr result (self.new ≡ self.old) }
+    {
+        let clause = join_steps(alloc, self.steps(), split, first, second)?;
+        let hints = [Hint::Step(first), Hint::Step(second)];
+        match self.add(alloc, clause.as_slice(), &hints) {
+            Ok(number) => Ok(number),
+            Err(LogFault::NoMemory) => Err(AllocError),
+            Err(LogFault::NotAccepted { .. }) => unreachable!(),
+        }
+    }
+
     /// The lemma whose clause is the step's: the steps up to and with it. The step is one of the
     /// log.
     pub fn lemma(&self, alloc: Global, step: u32) -> Result<Lemma, NoMemory>
@@ -131,6 +238,26 @@ impl ProofLog {
         ensures steps { IfOk result (λ c. c.steps ≡ take (step + 1) self.now.steps) }
     {
         let steps = first_steps(alloc, self.steps.as_slice(), step as usize)?;
+        let question = question.clone_in(alloc)?;
+        let problem = Arc::try_clone(&self.problem)?;
+        Ok(Closed::of(problem, question, steps))
+    }
+
+    /// The question with the steps on which the step rests, as `cone` has them. The step is one of
+    /// the log, and its clause holds only negations of the question's literals.
+    pub fn closed_by_cone(
+        &self,
+        alloc: Global,
+        step: u32,
+        question: &Question,
+    ) -> Result<Closed, NoMemory>
+        requires within { step < length self.now.steps }
+        requires negates { NegatesOnly question.now (spec.clause_at self.now.steps step) }
+        ensures problem { IfOk result (λ c. c.problem ≡ self.now.problem) }
+        ensures question { IfOk result (λ c. c.question ≡ question.now) }
+        ensures steps { IfOk result (λ c. IsCone self.now.steps step c.steps) }
+    {
+        let steps = Steps::new(self.cone(alloc, step)?);
         let question = question.clone_in(alloc)?;
         let problem = Arc::try_clone(&self.problem)?;
         Ok(Closed::of(problem, question, steps))
@@ -192,6 +319,57 @@ fn check_step(
     }
 }
 
+/// Of the candidates those that lead on, if one conflicts in its turn. Makes the assignment where it
+/// was not made yet; no atom is set before and afterwards.
+fn filter_hints(
+    alloc: Global,
+    assignment: &mut Assignment,
+    problem: &Problem,
+    earlier: &[Step],
+    clause: &[Lit],
+    candidates: &[Hint],
+) -> Result<Option<Vec<Hint>>, AllocError>
+    requires clear { assignment.old ≡ replicate (length assignment.old) None }
+    ensures kept { IfOk result (λ o. option_map (λ v. v.items) o
+        ≡ leads.leading_hints problem.now earlier.now clause.now candidates.now) }
+    ensures formed { IsWellFormed problem.now }
+    ensures clear { assignment.new ≡ replicate (length assignment.new) None }
+{
+    make_assignment(alloc, assignment, problem.atoms() as usize)?;
+    let kept = leading_hints(alloc, assignment, problem, earlier, clause, candidates);
+    assignment.clear();
+    kept
+}
+
+/// The clause that joins those of two steps.
+fn join_steps(
+    alloc: Global,
+    steps: &[Step],
+    split: Lit,
+    first: u32,
+    second: u32,
+) -> Result<Vec<Lit>, AllocError>
+    requires first { first < length steps.now }
+    requires second { second < length steps.now }
+    ensures { IfOk result (λ v. v.items ≡ clause_joined split
+        (spec.clause_at steps.now first) (spec.clause_at steps.now second)) }
+{
+    joined_clause(
+        alloc,
+        split,
+        clause_at(steps, first),
+        clause_at(steps, second),
+    )
+}
+
+/// The clause of the step.
+fn clause_at(steps: &[Step], number: u32) -> &[Lit]
+    requires { number < length steps.now }
+    ensures { result.now ≡ spec.clause_at steps.now number }
+{
+    steps[number as usize].clause.as_slice()
+}
+
 /// Makes the assignment one of so many atoms, if it is not one already.
 fn make_assignment(
     alloc: Global,
@@ -205,7 +383,7 @@ fn make_assignment(
     if assignment.values().len() == atoms {
         return Ok(());
     }
-    *assignment = Assignment::unset(alloc, atoms)?;
+    *assignment = Assignment::of_atoms(alloc, atoms)?;
     Ok(())
 }
 

@@ -1,7 +1,7 @@
 ghost use Rattle.std.specs.Prelude.{◌≡◌, ◌+◌, ◌-◌, ◌<◌, length, map, IfOk};
 ghost use Rattle.std.specs.List.{AllByRecursion};
 ghost use Rattle.count_core.specs.Limits.{number_limit};
-ghost use Rattle.refutations.specs.Earlier.{IsBelow, AreEarlier};
+ghost use Rattle.refutations.specs.EarlierSteps.{IsBelow, AreEarlier};
 ghost use Rattle.refutations.specs.Shifts as spec;
 
 use count_core::{Hint, Hints, Step};

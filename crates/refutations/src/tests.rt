@@ -1,4 +1,7 @@
-ghost use Rattle.std.specs.Prelude.{◌≡◌};
+ghost use Rattle.std.specs.Prelude.{◌≡◌, ◌<◌, true, length, IfSome, IfNone, Contains};
+ghost use Rattle.count_core.specs.Assignments.{negation};
+ghost use Rattle.refutations.specs.Derivations.{clause_at};
+ghost use Rattle.refutations.specs.Joins.{AreSides};
 
 use crate::{Closed, Lemma, LogFault, NoMemory, ProofLog};
 use count_core::{
@@ -238,6 +241,25 @@ fn closed_questions(rt: HostRuntime) {
     }
 }
 
+/// The question closed by the cone of the empty clause.
+fn closed_by_cone_of(alloc: Global, lits: &[Lit]) -> Option<Closed> {
+    let mut log = log_of(alloc, &STEPS[..3])?;
+    let number = log.add(alloc, &[], NOTHING.1).ok()?;
+    let question = question_of(alloc, lits)?;
+    log.closed_by_cone(alloc, number, &question).ok()
+}
+
+fn closed_by_cone_is(alloc: Global, lits: &[Lit]) -> Option<bool> {
+    let closed = closed_by_cone_of(alloc, lits)?;
+    let atoms = closed.problem().atoms();
+    Some(atoms == 8 && closed.question().lits() == lits && are(closed.steps(), &CONE))
+}
+
+#[test]
+fn closed_by_a_cone(rt: HostRuntime) {
+    assert_eq!(rt; closed_by_cone_is(rt.alloc(), &[YES_0]), Some(true));
+}
+
 fn cone_is(alloc: Global, step: u32, lines: &[Line<'_>]) -> Option<bool> {
     let log = log_of(alloc, &STEPS)?;
     if step as usize >= log.steps().len() {
@@ -279,4 +301,171 @@ fn join_logs(alloc: Global) -> Option<(u32, bool)> {
 #[test]
 fn one_log_behind_another(rt: HostRuntime) {
     assert_eq!(rt; join_logs(rt.alloc()), Some((1, true)));
+}
+
+/// After so many of `STEPS`, a clause with candidate hints, and the step that is added, if one is.
+const CANDIDATES: [(u32, Line<'static>, Option<Line<'static>>); 7] = [
+    // Rule 9 is idle, and rule 8 when it has forced; what comes after the conflict is left out.
+    (
+        0,
+        (
+            &[NO_0],
+            &[
+                Hint::Rule(9),
+                Hint::Rule(8),
+                Hint::Rule(8),
+                Hint::Rule(5),
+                Hint::Rule(4),
+            ],
+        ),
+        Some(NOT_0),
+    ),
+    // A rule and a step that are not there.
+    (
+        0,
+        (
+            &[NO_0],
+            &[Hint::Rule(10), Hint::Rule(8), Hint::Step(0), Hint::Rule(5)],
+        ),
+        Some(NOT_0),
+    ),
+    (
+        3,
+        (
+            &[],
+            &[
+                Hint::Step(0),
+                Hint::Rule(9),
+                Hint::Step(2),
+                Hint::Rule(4),
+                Hint::Step(1),
+            ],
+        ),
+        Some(NOTHING),
+    ),
+    // None conflicts.
+    (0, (&[NO_0], &[Hint::Rule(9), Hint::Rule(8)]), None),
+    (0, (&[NO_0], &[]), None),
+    // An atom twice, and an atom out of range.
+    (0, (&[NO_0, NO_0], &[Hint::Rule(8), Hint::Rule(5)]), None),
+    (0, (&[NO_8], &[Hint::Rule(8), Hint::Rule(5)]), None),
+];
+
+/// Whether a log of so many steps adds this step of the line's clause, or stays as it is.
+fn keeps(alloc: Global, before: u32, line: Line<'_>, want: Option<Line<'_>>) -> Option<bool> {
+    let mut log = log_of(alloc, STEPS.get(..before as usize)?)?;
+    let answer = log.add_leading(alloc, line.0, line.1).ok()?;
+    let step = log.steps().get(before as usize);
+    match (want, step) {
+        (Some((clause, hints)), Some(step)) => {
+            let same = step.clause.as_slice() == clause && step.hints.as_slice() == hints;
+            Some(answer == Some(before) && same)
+        }
+        (None, None) => Some(answer.is_none()),
+        _ => Some(false),
+    }
+}
+
+#[test]
+fn keeps_leading_hints(rt: HostRuntime) {
+    for (before, line, want) in CANDIDATES {
+        let answer = keeps(rt.alloc(), before, line, want);
+        assert_eq!(rt; answer, Some(true), "{before} steps, then {line:?}");
+    }
+}
+
+/// Whether these are the sides of the split, as a log wants them.
+fn are_sides(split: Lit, first: &[Lit], second: &[Lit]) -> bool
+    ensures { result ≡ true → AreSides split first.now second.now }
+{
+    first.contains(&split.negation())
+        && second.contains(&split)
+        && first.iter().all(|lit| lit.atom == split.atom || !second.contains(&lit.negation()))
+}
+
+/// Whether a log of these steps may join them.
+fn may_join(steps: &[Step], split: Lit, first: u32, second: Option<u32>) -> bool
+    ensures first { result ≡ true → first < length steps.now }
+    ensures second { result ≡ true → IfSome second (λ n. n < length steps.now) }
+    ensures alone { result ≡ true
+        → IfNone second (¬ (Contains (clause_at steps.now first) (negation split))) }
+    ensures sides { result ≡ true → IfSome second (λ n.
+        AreSides split (clause_at steps.now first) (clause_at steps.now n)) }
+{
+    let Some(one) = steps.get(first as usize) else {
+        return false;
+    };
+    let one = one.clause.as_slice();
+    match second {
+        None => !one.contains(&split.negation()),
+        Some(second) => match steps.get(second as usize) {
+            None => false,
+            Some(other) => are_sides(split, one, other.clause.as_slice()),
+        },
+    }
+}
+
+/// The number that the log answers for the joined sides, where it may join them.
+fn join(
+    alloc: Global,
+    log: &mut ProofLog,
+    split: Lit,
+    first: u32,
+    second: Option<u32>,
+) -> Option<u32> {
+    if !may_join(log.steps(), split, first, second) {
+        return None;
+    }
+    log.join_sides(alloc, split, first, second).ok()
+}
+
+/// Two sides of a split over atom 0, and a step that needs no second side.
+const SIDES: [Line<'static>; 3] = [
+    (&[NO_0, NO_2], &[Hint::Rule(8)]),
+    (&[NO_4, YES_0, NO_2], &[Hint::Rule(8)]),
+    NOT_2,
+];
+
+/// A split, its two steps, the number that is answered, and the steps that are added.
+const JOINS: [(Lit, u32, Option<u32>, u32, &[Line<'static>]); 3] = [
+    (
+        YES_0,
+        0,
+        Some(1),
+        3,
+        &[(&[NO_2, NO_4], &[Hint::Step(0), Hint::Step(1)])],
+    ),
+    (
+        NO_0,
+        1,
+        Some(0),
+        3,
+        &[(&[NO_4, NO_2], &[Hint::Step(1), Hint::Step(0)])],
+    ),
+    (YES_0, 2, None, 2, &[]),
+];
+
+/// What the log of `SIDES` answers for the join, and whether it then has these steps more.
+fn join_is(
+    alloc: Global,
+    split: Lit,
+    first: u32,
+    second: Option<u32>,
+    more: &[Line<'_>],
+) -> Option<(u32, bool)> {
+    let mut log = log_of(alloc, &SIDES)?;
+    let number = join(alloc, &mut log, split, first, second)?;
+    Some((number, are(log.steps().get(3..)?, more)))
+}
+
+#[test]
+fn joined_sides(rt: HostRuntime) {
+    for (split, first, second, number, more) in JOINS {
+        let answer = join_is(rt.alloc(), split, first, second, more);
+        assert_eq!(rt;
+            answer,
+            Some((number, true)),
+            "steps {first} and {second:?}"
+        );
+    }
 }

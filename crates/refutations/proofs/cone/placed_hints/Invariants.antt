@@ -1,5 +1,5 @@
 use Rattle.std.proofs.Common.{◌≡◌, ◌++◌, drop, map}
-use Rattle.refutations.specs.Earlier.{by_place}
+use Rattle.refutations.specs.EarlierSteps.{by_place}
 use Rattle.refutations.proofs.cone.placed_hints.Given as goal
 
 -- the copies, and then those left

@@ -1,7 +1,7 @@
 use Rattle.std.proofs.Common.{◌∙◌, arith, sym, ap, refl, length}
 use Rattle.count_core.proofs.Assigning.{length-assign_all}
 use Rattle.count_core.proofs.HintChecks.{hint_goes_on}
-use Rattle.refutations.specs.Named.{rule_of}
+use Rattle.refutations.specs.NamedRules.{rule_of}
 use Rattle.refutations.proofs.hint_check.failing_from.Goals as goal
 
 pub loop-i-preserved : goal.loop-i-preserved

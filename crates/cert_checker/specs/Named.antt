@@ -1,6 +1,0 @@
--- The rule that borrowed literals and bounds stand for.
-use Rattle.cert_checker.specs.declared.named.Named.{Named}
-use Rattle.count_core.specs.declared.count_rule.CountRule.{CountRule}
-
-abbrev pub rule_of : Named → CountRule
-rule_of n = record { lits = n.lits.now; lo = n.lo; hi = n.hi }

@@ -1,0 +1,11 @@
+pub mod Basics
+pub mod Trails
+pub mod Counting
+pub mod Statuses
+pub mod Stores
+pub mod Lists
+pub mod Splits
+pub mod Clauses
+pub mod Forced
+pub mod Queues
+pub mod Engines

@@ -1,0 +1,242 @@
+ghost use Rattle.std.specs.Prelude.{◌≡◌, true, IfOk};
+ghost use Rattle.std.specs.Arc.{arc_value};
+ghost use Rattle.count_core.specs.Problems.{are_within};
+
+use crate::{Counts, Outcome, Session, solve};
+use count_core::{
+    Atom, CountRule, Hint, Lit, Lits, Problem, Question, SharedProblem, are_distinct,
+};
+use refutations::ProofLog;
+use std::alloc::Global;
+use std::sync::Arc;
+use std::test::Fail;
+
+/// Atoms of which from so many to so many are true.
+type Row<'a> = (&'a [u32], u32, u32);
+
+/// A literal: its atom, and whether it is positive.
+type Sign = (u32, bool);
+
+/// Whether an answer is Possible, how many steps it holds, how many second sides were opened, and
+/// what the session has done so far.
+type Report = (bool, usize, u64, Counts);
+
+/// Two pots of two teams in two groups; the atom of team i in group k is 2 * i + k. Each team in
+/// one group, in each group one team of each pot, in each group at most one team. No assignment
+/// satisfies all ten; without the last two one does.
+const CLASH: [Row<'static>; 10] = [
+    (&[0, 1], 1, 1),
+    (&[2, 3], 1, 1),
+    (&[4, 5], 1, 1),
+    (&[6, 7], 1, 1),
+    (&[0, 2], 1, 1),
+    (&[4, 6], 1, 1),
+    (&[1, 3], 1, 1),
+    (&[5, 7], 1, 1),
+    (&[0, 2, 4, 6], 0, 1),
+    (&[1, 3, 5, 7], 0, 1),
+];
+
+/// The first team is not in the first group.
+const NOT_0: [Lit; 1] = [Lit {
+    atom: Atom(0),
+    positive: false,
+}];
+
+const NOT_0_HINTS: [Hint; 2] = [Hint::Rule(8), Hint::Rule(5)];
+
+/// The first team is in the first group, and the second is not in the second.
+const APART: [Sign; 2] = [(0, true), (3, false)];
+
+fn lit_of(sign: Sign) -> Lit {
+    Lit {
+        atom: Atom(sign.0),
+        positive: sign.1,
+    }
+}
+
+/// The rule that from `lo` to `hi` of the atoms are true.
+fn rule_of(alloc: Global, atoms: &[u32], lo: u32, hi: u32) -> Result<CountRule, Fail> {
+    let mut lits = Vec::new(alloc);
+    for atom in atoms {
+        lits.push(lit_of((*atom, true)))?;
+    }
+    let lits = Lits::new(lits);
+    Ok(CountRule { lits, lo, hi })
+}
+
+fn shared(alloc: Global, atoms: u32, rules: Vec<CountRule>) -> Result<SharedProblem, Fail>
+    ensures { IfOk result (λ p. (arc_value p).atoms ≡ atoms) }
+{
+    if rules.len() > 1000 {
+        return Err("too many rules".into());
+    }
+    let Ok(problem) = Problem::build(alloc, atoms, rules) else {
+        return Err("no problem".into());
+    };
+    Ok(Arc::new(alloc, problem)?)
+}
+
+/// The problem of the rows over so many atoms, with each atom of a row raised by so much.
+fn raised(alloc: Global, rows: &[Row<'_>], by: u32, atoms: u32) -> Result<SharedProblem, Fail>
+    ensures { IfOk result (λ p. (arc_value p).atoms ≡ atoms) }
+{
+    let mut rules = Vec::new(alloc);
+    for (row, lo, hi) in rows {
+        let mut raised = Vec::new(alloc);
+        for atom in *row {
+            raised.push(atom.wrapping_add(by))?;
+        }
+        rules.push(rule_of(alloc, raised.as_slice(), *lo, *hi)?)?;
+    }
+    shared(alloc, atoms, rules)
+}
+
+/// Each pigeon is in one hole, and in a hole is at most one pigeon.
+fn pigeonholes(alloc: Global, pigeons: u32, holes: u32) -> Result<SharedProblem, Fail> {
+    let mut rules = Vec::new(alloc);
+    for pigeon in 0..pigeons {
+        let mut row = Vec::new(alloc);
+        for hole in 0..holes {
+            row.push(pigeon.wrapping_mul(holes).wrapping_add(hole))?;
+        }
+        rules.push(rule_of(alloc, row.as_slice(), 1, 1)?)?;
+    }
+    for hole in 0..holes {
+        let mut row = Vec::new(alloc);
+        for pigeon in 0..pigeons {
+            row.push(pigeon.wrapping_mul(holes).wrapping_add(hole))?;
+        }
+        rules.push(rule_of(alloc, row.as_slice(), 0, 1)?)?;
+    }
+    shared(alloc, pigeons.wrapping_mul(holes), rules)
+}
+
+/// Whether each literal is over one of so many atoms.
+fn within(atoms: u32, lits: &[Lit]) -> bool
+    ensures { result ≡ are_within atoms lits.now }
+{
+    lits.iter().all(|lit| lit.atom.0 < atoms)
+}
+
+/// The question of these literals, which are over different ones of so many atoms.
+fn question_of(alloc: Global, atoms: u32, signs: &[Sign]) -> Result<Question, Fail>
+    ensures { IfOk result (λ q. are_within atoms q ≡ true) }
+{
+    let mut lits = Vec::new(alloc);
+    for sign in signs {
+        lits.push(lit_of(*sign))?;
+    }
+    if !are_distinct(lits.as_slice()) || !within(atoms, lits.as_slice()) {
+        return Err("no question".into());
+    }
+    Ok(Question::new(Lits::new(lits)))
+}
+
+/// Asks the question, and reports the answer.
+fn ask(alloc: Global, session: &mut Session, question: &Question) -> Result<Report, Fail>
+    requires { are_within session.old.problem.atoms question.now ≡ true }
+    ensures { session.new.problem ≡ session.old.problem }
+{
+    let answer = solve(alloc, question, session)?;
+    let (possible, steps) = match answer.outcome() {
+        Outcome::Possible { .. } => (true, 0),
+        Outcome::Impossible { closed } => (false, closed.steps().len()),
+    };
+    Ok((
+        possible,
+        steps,
+        session.opened(),
+        session.counts(),
+    ))
+}
+
+/// Asks one question of a new session.
+fn first_report(
+    alloc: Global,
+    problem: SharedProblem,
+    atoms: u32,
+    signs: &[Sign],
+) -> Result<Report, Fail>
+    requires { (arc_value problem).atoms ≡ atoms }
+{
+    let question = question_of(alloc, atoms, signs)?;
+    let mut session = Session::new(alloc, problem)?;
+    ask(alloc, &mut session, &question)
+}
+
+/// Learns that the first team is not in the first group before it asks the empty question.
+fn report_with_lemma(alloc: Global) -> Result<Report, Fail> {
+    let problem = raised(alloc, &CLASH, 0, 8)?;
+    let question = question_of(alloc, 8, &[])?;
+    let mut log = ProofLog::new(alloc, Arc::try_clone(&problem)?);
+    let Ok(step) = log.add(alloc, &NOT_0, &NOT_0_HINTS) else {
+        return Err("not accepted".into());
+    };
+    let lemma = log.lemma(alloc, step)?;
+    let mut session = Session::new(alloc, problem)?;
+    session.import(alloc, &lemma)?;
+    ask(alloc, &mut session, &question)
+}
+
+/// Asks two questions in turn, one of them twice, of one session.
+fn reports_in_turn(alloc: Global) -> Result<(Report, Report, Report), Fail> {
+    let apart = question_of(alloc, 8, &APART)?;
+    let empty = question_of(alloc, 8, &[])?;
+    let mut session = Session::new(alloc, raised(alloc, &CLASH[..8], 0, 8)?)?;
+    let first = ask(alloc, &mut session, &apart)?;
+    let second = ask(alloc, &mut session, &empty)?;
+    let third = ask(alloc, &mut session, &apart)?;
+    Ok((first, second, third))
+}
+
+#[test]
+fn clash_is_impossible_with_its_last_rules_alone(rt: HostRuntime) -> Result<(), Fail> {
+    let alloc = rt.alloc();
+    let (possible, steps, opened, counts) =
+        first_report(alloc, raised(alloc, &CLASH, 0, 8)?, 8, &[])?;
+    println!(&rt; "{possible} {steps} {opened} {counts:?}")?;
+    let (possible, steps, opened, counts) =
+        first_report(alloc, raised(alloc, &CLASH[..8], 0, 8)?, 8, &[])?;
+    println!(&rt; "{possible} {steps} {opened} {counts:?}")?;
+    Ok(())
+}
+
+#[test]
+fn sibling_not_opened(rt: HostRuntime) -> Result<(), Fail> {
+    let alloc = rt.alloc();
+    let (possible, steps, opened, counts) =
+        first_report(alloc, raised(alloc, &CLASH, 20, 28)?, 28, &[])?;
+    println!(&rt; "{possible} {steps} {opened} {counts:?}")?;
+    Ok(())
+}
+
+#[test]
+fn questions_in_turn(rt: HostRuntime) -> Result<(), Fail> {
+    let alloc = rt.alloc();
+    let (first, second, third) = reports_in_turn(alloc)?;
+    println!(&rt; "{} {} {}", first.1, second.1, third.1)?;
+    Ok(())
+}
+
+#[test]
+fn a_lemma_is_learnt(rt: HostRuntime) -> Result<(), Fail> {
+    let alloc = rt.alloc();
+    let (possible, steps, opened, counts) = report_with_lemma(alloc)?;
+    println!(&rt; "{possible} {steps} {opened} {counts:?}")?;
+    Ok(())
+}
+
+#[test]
+fn pigeons(rt: HostRuntime) -> Result<(), Fail> {
+    let alloc = rt.alloc();
+    for holes in 5..10 {
+        let pigeons = holes + 1;
+        let problem = pigeonholes(alloc, pigeons, holes)?;
+        let mut session = Session::new(alloc, problem)?;
+        let question = question_of(alloc, pigeons * holes, &[])?;
+        let (possible, steps, opened, counts) = ask(alloc, &mut session, &question)?;
+        println!(&rt; "{possible} {steps} {opened} {counts:?}")?;
+    }
+    Ok(())
+}
