@@ -1,5 +1,5 @@
 -- The words of a program, behind its name.
-use Rattle.std.proofs.Common.{◌≡◌, ℕ, List, length, drop, vec_len, Result, IfOk, String, Global, Vec, ap, ◌∙◌, subst, sym}
+use Rattle.std.proofs.Common.{◌≡◌, List, length, drop, vec_len, Result, IfOk, Vec, ap, ◌∙◌}
 use Rattle.std.proofs.lemmas.Result.{IfOk-weaker}
 use Rattle.std.proofs.lemmas.Iterator.Adapters.{YieldsList-from_vec, YieldsList-from_skip, fact_from_collect}
 use Rattle.std.specs.Bool.{⊤}

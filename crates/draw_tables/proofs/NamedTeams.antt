@@ -1,5 +1,6 @@
 -- What a state names is of its file: its moves, its phase, its candidates, and what is offered in it.
-use Rattle.std.proofs.Common.{◌≡◌, ℕ, zero, suc, Bool, true, false, not, List, [], ◌∷◌, ◌++◌, Option, Some, None, inl, inr, slice_get, refl}
+use Rattle.std.proofs.Common.{◌≡◌, ℕ, zero, suc, Bool, true, false, not, List, [], ◌∷◌, ◌++◌, Option, Some, None, inl, inr, slice_get, refl, subst, ◌∙◌}
+use Rattle.std.specs.List.{AllByRecursion as Each}
 use Rattle.std.specs.Option.{option_or}
 use Rattle.team_files.specs.declared.kind.Kind.{Kind}
 use Rattle.team_files.specs.declared.team_id.TeamId.{TeamId}
@@ -13,7 +14,7 @@ use Rattle.draw_tables.specs.declared.moves.Phase.{Phase}
 use Rattle.draw_tables.specs.declared.moves.Phase.TheVariants.{Runner, Opponent, Complete}
 use Rattle.draw_tables.specs.Lists.{IsAmong}
 use Rattle.draw_tables.specs.Pots.{IsTeamOf}
-use Rattle.draw_tables.specs.Moves.{last_drawn}
+use Rattle.draw_tables.specs.Moves.{last_drawn, drawn_team}
 use Rattle.draw_tables.specs.PairingPhases.{has_opponent, undrawn_runners_up, pairing_phase_with, pairing_phase}
 use Rattle.draw_tables.specs.States.{phase_by, phase_of, candidates, move_in, IsCandidateMove, AreMovesAfter}
 use Rattle.draw_tables.specs.Offers.{IsPossible, Picks}
@@ -40,19 +41,16 @@ picked_of file P (c ∷ cs) os (inr h) a = picked_of file P cs os h.1 a.1
 
 -- ---- phases
 
--- the team that was drawn last is of the file
-last_of : (file : DrawFile) (ms : List Move) (r : TeamId) → AreFileMoves file ms → last_drawn ms ≡ Some r → IsTeamOf file r
-last_of file [] r h e = cc
-last_of file (Drawn t ∷ ms) r h e = go (λ f. last_of file ms r h.1 f) (last_drawn ms) refl e
+-- What holds of the drawn team where a fact holds of the move holds of the last drawn where it holds of each.
+pub last_has : (Q : Move → Type 0) (P : TeamId → Type 0) → ((t : TeamId) → Q (Drawn t) → P t)
+    → (ms : List Move) (t : TeamId) → Each Q ms → last_drawn ms ≡ Some t → P t
+last_has Q P of [] t h e = cc
+last_has Q P of (m ∷ ms) t h e = by_cases (last_drawn ms) refl m h.0 e (last_has Q P of ms t h.1)
   where
-    go : (last_drawn ms ≡ Some r → IsTeamOf file r) → (later : Option TeamId) → last_drawn ms ≡ later → option_or later (Some t) ≡ Some r → IsTeamOf file r
-    go found None is f = let same : t ≡ r = cc in rw (← same) h.0
-    go found (Some s) is f = found (rw is f)
-last_of file (Paired a b ∷ ms) r h e = go (λ f. last_of file ms r h.1 f) (last_drawn ms) refl e
-  where
-    go : (last_drawn ms ≡ Some r → IsTeamOf file r) → (later : Option TeamId) → last_drawn ms ≡ later → option_or later None ≡ Some r → IsTeamOf file r
-    go found None is f = cc
-    go found (Some s) is f = found (rw is f)
+    by_cases : (o : Option TeamId) → last_drawn ms ≡ o → (n : Move) → Q n → option_or o (drawn_team n) ≡ Some t → (last_drawn ms ≡ Some t → P t) → P t
+    by_cases (Some s) is n k e rest = rest (is ∙ e)
+    by_cases None is (Drawn s) k e rest = let same : s ≡ t = cc in subst P same (of s k)
+    by_cases None is (Paired s v) k e rest = cc
 
 -- the phase of a pairing is of the file
 pairing_phase_of : (file : DrawFile) (ms : List Move) → AreFileMoves file ms → IsFilePhase file (pairing_phase file ms)
@@ -68,7 +66,7 @@ pairing_phase_of file ms h = go (last_drawn ms) refl
 
     go : (last : Option TeamId) → last_drawn ms ≡ last → IsFilePhase file (pairing_phase file ms)
     go None is = rw is (left (undrawn_runners_up file ms))
-    go (Some r) is = rw is (held r (has_opponent r ms) (last_of file ms r h is))
+    go (Some r) is = rw is (held r (has_opponent r ms) (last_has (IsFileMove file) (IsTeamOf file) (λ t k. k) ms r h is))
 
 -- After moves of the file the phase is of the file.
 pub phase_is_of : (file : DrawFile) (ms : List Move) → AreFileMoves file ms → IsFilePhase file (phase_of file ms)

@@ -1,5 +1,5 @@
 -- A table is read of its text, and of no other table's.
-use Rattle.std.proofs.Common.{◌≡◌, ℕ, zero, suc, ◌+◌, ◌≤◌, List, [], ◌∷◌, ◌++◌, length, Option, Some, None, arith, sym, ap, ◌∙◌}
+use Rattle.std.proofs.Common.{◌≡◌, ℕ, zero, suc, ◌+◌, ◌≤◌, List, [], ◌++◌, length, Option, Some, None, arith, sym, ap, ◌∙◌}
 use Rattle.std.specs.Prelude.{option_map}
 use Rattle.team_files.specs.declared.kind.Kind.{Kind}
 use Rattle.team_files.specs.declared.team_id.TeamId.{TeamId}
@@ -8,34 +8,26 @@ use Rattle.rule_sets.specs.Forms.{HasForm, FilesHaveForm}
 use Rattle.draw_tables.specs.declared.pair_table.PairTable.{PairTable}
 use Rattle.draw_tables.specs.declared.table.Table.{Table}
 use Rattle.draw_tables.specs.declared.table.Table.TheVariants.{Pairs}
-use Rattle.draw_tables.specs.Pots.{runners_up, AreTeamsOf}
+use Rattle.draw_tables.specs.Pots.{runners_up}
 use Rattle.draw_tables.specs.TableTexts.{IsTextOf, OneTableOfText}
 use Rattle.draw_tables.specs.Reading.{teams_in}
 use Rattle.draw_tables.proofs.Lists.{same_item}
 use Rattle.draw_tables.proofs.HalfOfTeams.{half}
-use Rattle.draw_tables.proofs.TextReading.{AllWithin, read_has_text, text_is_read}
-
-are_teams : (file : DrawFile) (ts : List TeamId) → AllWithin file.teams ts → AreTeamsOf file ts
-are_teams file [] h = tt
-are_teams file (t ∷ ts) h = (h.0, are_teams file ts h.1)
-
-are_within : (file : DrawFile) (ts : List TeamId) → AreTeamsOf file ts → AllWithin file.teams ts
-are_within file [] h = tt
-are_within file (t ∷ ts) h = (h.0, are_within file ts h.1)
+use Rattle.draw_tables.proofs.TextReading.{read_has_text, text_is_read}
 
 -- what is read of bytes has them as its text
 pub read_is_text : (file : DrawFile) (pairs : PairTable) (more : ℕ) (bytes : List ℕ) → file.kind ≡ Kind.Pairing → more + 1 ≡ length (runners_up file)
     → teams_in file.teams more bytes ≡ Some pairs.winners → IsTextOf file (Pairs pairs) bytes
 read_is_text file pairs more bytes kind size e =
     let h = read_has_text file.teams more bytes pairs.winners e in
-    record { of_file = record { kind = kind; size = h.size ∙ size; teams = are_teams file pairs.winners h.within }; text = h.text }
+    record { of_file = record { kind = kind; size = h.size ∙ size; teams = h.within }; text = h.text }
 
 -- a table is read of its text
 pub text_gives : (file : DrawFile) (pairs : PairTable) (more : ℕ) (bytes : List ℕ) → HasForm file → more + 1 ≡ length (runners_up file)
     → IsTextOf file (Pairs pairs) bytes → teams_in file.teams more bytes ≡ Some pairs.winners
 text_gives file pairs more bytes form size h =
     text_is_read file.teams form.common.codes form.common.distinct_codes more bytes pairs.winners
-    (record { size = h.of_file.size ∙ sym size; within = are_within file pairs.winners h.of_file.teams; text = h.text })
+    (record { size = h.of_file.size ∙ sym size; within = h.of_file.teams; text = h.text })
 
 -- where nothing is read the bytes are no table's text
 pub no_text : (file : DrawFile) (table : Table) (more : ℕ) (bytes : List ℕ) → HasForm file → more + 1 ≡ length (runners_up file)

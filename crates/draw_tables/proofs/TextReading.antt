@@ -1,19 +1,19 @@
 -- What is read of a text has that text, and what has a text is read of it.
 use Rattle.std.proofs.Common.{◌≡◌, ℕ, zero, suc, ◌+◌, ◌<◌, Bool, true, false, List, [], ◌∷◌, ◌++◌, length, take, drop, Option, Some, None, slice_get, arith, refl, sym, ap, ◌∙◌}
-use Rattle.std.specs.Prelude.{◌==◌, if◌then◌else◌, bytes_eq, option_map, option_and_then}
-use Rattle.std.specs.List.{All, list_all}
+use Rattle.std.specs.Prelude.{◌==◌, if◌then◌else◌, option_map, option_and_then}
+use Rattle.std.specs.List.{All, list_all, AllByRecursion as Each}
 use Rattle.std.proofs.lemmas.Bool.{and_parts, eqb-true}
 use Rattle.std.proofs.lemmas.List.Elements.{All-head, All-tail}
-use Rattle.std.proofs.lemmas.Option.{slice_get_within}
-use Rattle.std.proofs.lemmas.Slice.Eq.{bytes_eq-Decides}
 use Rattle.team_files.specs.declared.team.Team.{Team}
 use Rattle.team_files.specs.declared.team_id.TeamId.{TeamId}
 use Rattle.team_files.specs.Characters.{is_code, is_code_character}
-use Rattle.team_files.specs.Teams.{find, find_from, HaveDistinctCodes}
+use Rattle.team_files.specs.Codes.{codes_of, HasCodeAt}
+use Rattle.team_files.specs.Teams.{find, HaveDistinctCodes}
+use Rattle.team_files.proofs.CodeLaws.{stands, to_different, finds_by_code}
 use Rattle.rule_sets.specs.Forms.{HasCode}
 use Rattle.draw_tables.specs.Reading.{front_team, spaced_team, spaced_teams, teams_in}
 use Rattle.draw_tables.specs.TableTexts.{code_in, code_of, spaced_codes, codes_text}
-use Rattle.draw_tables.proofs.Lists.{same_item, item_at}
+use Rattle.draw_tables.proofs.Lists.{same_item, item_at, map_at}
 
 -- ---- three characters in front
 
@@ -38,48 +38,11 @@ coded_at (u ∷ ts) (suc k) t h e = coded_at ts k t (All-tail HasCode u ts h) e
 
 -- ---- the team with a code
 
--- a team with the code stands at the place
-pub record StandsAt (teams : List Team) (code : List ℕ) (at : ℕ) : Type 0 where
-  pub team : Team
-  pub stands : slice_get teams at ≡ Some team
-  pub coded : team.code ≡ code
-
-found_coded : (code : List ℕ) (ts : List Team) (n : ℕ) (id : TeamId) → find_from code ts n ≡ Some id → (k : ℕ) × (id.0 ≡ n + k) × StandsAt ts code k
-found_coded code [] n id e = cc
-found_coded code (t ∷ ts) n id e = go (bytes_eq t.code code) refl e (found_coded code ts (n + 1) id)
-  where
-    go : (b : Bool) → bytes_eq t.code code ≡ b → (if b then Some (record { 0 = n }) else find_from code ts (n + 1)) ≡ Some id
-        → (find_from code ts (n + 1) ≡ Some id → (k : ℕ) × (id.0 ≡ (n + 1) + k) × StandsAt ts code k)
-        → (k : ℕ) × (id.0 ≡ n + k) × StandsAt (t ∷ ts) code k
-    go true is h later =
-        let s : n ≡ id.0 = ap (λ (x : TeamId). x.0) (same_item (record { 0 = n }) id h) in
-        (0, omega arith, record { team = t; stands = refl; coded = (bytes_eq-Decides t.code code).0 is })
-    go false is h later =
-        let found = later h in
-        let place = found.1 in
-        (suc found.0, omega arith, record { team = found.2.team; stands = found.2.stands; coded = found.2.coded })
-
--- a team that stands in the list is found by its code
-is_found : (code : List ℕ) (ts : List Team) (n k : ℕ) (t : Team) → HaveDistinctCodes ts → slice_get ts k ≡ Some t → t.code ≡ code → find_from code ts n ≡ Some (record { 0 = n + k })
-is_found code [] n k t distinct e is = cc
-is_found code (u ∷ ts) n zero t distinct e is =
-    let same : u.code ≡ code = ap (λ (x : Team). x.code) (same_item u t e) ∙ is in
-    let here : n ≡ n + 0 = omega arith in
-    rw (same, (bytes_eq-Decides code code).1 refl) (ap (λ x. Some (record { 0 = x })) here)
-is_found code (u ∷ ts) n (suc k) t distinct e is =
-    go (bytes_eq u.code code) refl (is_found code ts (n + 1) k t distinct.1 e is) (λ same. is_found u.code ts 0 k t distinct.1 e (is ∙ sym same))
-  where
-    place : (n + 1) + k ≡ n + suc k
-    place = omega arith
-
-    apart : find_from u.code ts 0 ≡ Some (record { 0 = 0 + k }) → ⊥
-    apart later = let none = distinct.0 in cc
-
-    go : (b : Bool) → bytes_eq u.code code ≡ b → find_from code ts (n + 1) ≡ Some (record { 0 = (n + 1) + k })
-        → (u.code ≡ code → find_from u.code ts 0 ≡ Some (record { 0 = 0 + k }))
-        → (if b then Some (record { 0 = n }) else find_from code ts (n + 1)) ≡ Some (record { 0 = n + suc k })
-    go true same later here = absurd (apart (here ((bytes_eq-Decides u.code code).0 same)))
-    go false same later here = later ∙ ap (λ x. Some (record { 0 = x })) place
+-- the code at a place of the teams' codes is that of the team there
+code_there : (code : List ℕ) (ts : List Team) (k : ℕ) → HasCodeAt (codes_of ts) k code → (k < length ts) × (code_in (slice_get ts k) ≡ code)
+code_there code [] k e = cc
+code_there code (t ∷ ts) zero e = let same : t.code ≡ code = cc in (omega arith, same)
+code_there code (t ∷ ts) (suc k) e = let rest = code_there code ts k e in (omega (arith, rest.0), rest.1)
 
 -- ---- one item
 
@@ -93,12 +56,8 @@ front_gives teams bytes t e = go (is_code (take 3 bytes)) e
   where
     go : (b : Bool) → (if b then find (take 3 bytes) teams else None) ≡ Some t → IsFront teams bytes t
     go true h =
-        let found = found_coded (take 3 bytes) teams 0 t h in
-        let place : t.0 ≡ found.0 = let is = found.1 in omega arith in
-        let stands : slice_get teams t.0 ≡ Some found.2.team = ap (slice_get teams) place ∙ found.2.stands in
-        let code : code_of teams t ≡ take 3 bytes = ap code_in stands ∙ found.2.coded in
-        let lt = slice_get_within teams t.0 found.2.team stands in
-        record { within = lt; text = ap (λ xs. xs ++ drop 3 bytes) code ∙ front_and_rest 3 bytes }
+        let there = code_there (take 3 bytes) teams t.0 (stands (take 3 bytes) teams t h) in
+        record { within = there.0; text = ap (λ xs. xs ++ drop 3 bytes) there.1 ∙ front_and_rest 3 bytes }
     go false h = cc
 
 module _ (teams : List Team) (coded : All HasCode teams) (distinct : HaveDistinctCodes teams) where
@@ -108,16 +67,14 @@ module _ (teams : List Team) (coded : All HasCode teams) (distinct : HaveDistinc
       let is : code_of teams t ≡ team.0.code = ap code_in team.1 in
       let form = coded_at teams t.0 team.0 coded team.1 in
       let front = front_of 3 team.0.code rest (three team.0.code form) in
-      let found = is_found team.0.code teams 0 t.0 team.0 distinct team.1 refl in
-      let place : 0 + t.0 ≡ t.0 = omega arith in
-      (rw (is, front.0, form) (found ∙ ap (λ x. Some (record { 0 = x })) place), rw is front.1)
+      let found = (finds_by_code.found teams team.0.code t (to_different teams distinct)).1 (map_at (λ u. u.code) teams t.0 team.0 team.1) in
+      (rw (is, front.0, form) found, rw is front.1)
 
 -- ---- all items
 
 -- each is a team of the list
 abbrev pub AllWithin : List Team → List TeamId → Type 0
-AllWithin teams [] = Unit {0}
-AllWithin teams (t ∷ ts) = (t.0 < length teams) × AllWithin teams ts
+AllWithin teams ts = Each (λ t. t.0 < length teams) ts
 
 -- so many teams' codes, each behind one space, are the bytes
 pub record AreSpaced (teams : List Team) (n : ℕ) (bytes : List ℕ) (ts : List TeamId) : Type 0 where

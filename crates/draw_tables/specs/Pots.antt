@@ -1,5 +1,6 @@
 -- The pots of a file, and teams by their numbers. In a pairing pot 1 has the winners, pot 2 the runners-up.
 use Rattle.std.specs.Prelude.{◌≡◌, ℕ, ◌+◌, ◌<◌, ◌==◌, if◌then◌else◌, List, [], ◌∷◌, length, Some, slice_get}
+use Rattle.std.specs.List.{AllByRecursion as Each}
 use Rattle.team_files.specs.declared.team.Team.{Team}
 use Rattle.team_files.specs.declared.team_id.TeamId.{TeamId}
 use Rattle.rule_sets.specs.Files.{DrawFile}
@@ -32,5 +33,4 @@ IsTeamOf file id = id.0 < length file.teams
 
 -- each is a team of the file
 abbrev pub AreTeamsOf : DrawFile → List TeamId → Type 0
-AreTeamsOf file [] = Unit {0}
-AreTeamsOf file (t ∷ ts) = IsTeamOf file t × AreTeamsOf file ts
+AreTeamsOf file ts = Each (λ t. IsTeamOf file t) ts

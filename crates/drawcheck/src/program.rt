@@ -1,15 +1,14 @@
 //! What `main` does between its streams: from the words to the exit code.
 
-ghost use Rattle.std.specs.Prelude.{◌≡◌, ◌⊎◌, IfOk, OnErr, codes};
+ghost use Rattle.std.specs.Prelude.{◌≡◌, IfOk, OnErr, codes};
 ghost use Rattle.std.specs.Process.{exit_status};
 ghost use Rattle.draw_ports.specs.Exits.{ExitsWith, IsTold, line_of_status};
-ghost use Rattle.draw_top.specs.declared.status.Status.{Status as StatusValue};
 ghost use Rattle.draw_top.specs.Statuses.{status_number};
-ghost use Rattle.draw_top.specs.Outside.{outside, NothingFailed};
+ghost use Rattle.draw_top.specs.Outside.{outside};
 ghost use Rattle.draw_top.specs.Follow.{words_of};
 ghost use Rattle.draw_top.specs.Check.{GainsApproval, GainsObjection};
-ghost use Rattle.draw_top.specs.Modes.{Mode, AsksFor, Drawcheck, Judge};
-ghost use Rattle.draw_top.specs.Endings.{Ends, CallsFor};
+ghost use Rattle.draw_top.specs.Modes.{AsksFor, Drawcheck, Judge};
+ghost use Rattle.draw_top.specs.Endings.{Ends, IsComplete};
 
 use draw_ports::{NoMemory, Sink, Source, exit_code};
 use draw_top::{Status, run_check};
@@ -40,12 +39,11 @@ pub(crate) fn run_program<S: Source, K: Sink, E: Sink>(
         (outside (S.left src.new) (K.wrote out.new) (S.faults src.new) (K.faults out.new)))
         result) }
     // The right words and no fault: by the bytes alone, or no memory.
-    ensures complete { IfOk words (λ words. (mode : Mode) (status : StatusValue)
-        → AsksFor Drawcheck (words_of words.items) mode → CallsFor mode (S.left src.old) status
-        → NothingFailed
+    ensures complete { IfOk words (λ words. ExitsWith status_number (λ status.
+        IsComplete Drawcheck status (words_of words.items)
         (outside (S.left src.old) (K.wrote out.old) (S.faults src.old) (K.faults out.old))
-        (outside (S.left src.new) (K.wrote out.new) (S.faults src.new) (K.faults out.new))
-        → ExitsWith status_number (λ end. (end ≡ status) ⊎ (end ≡ Status.NoMemory)) result) }
+        (outside (S.left src.new) (K.wrote out.new) (S.faults src.new) (K.faults out.new)))
+        result) }
     // No memory for the words: nothing is read and nothing written.
     ensures no_words { OnErr words (exit_status result ≡ status_number Status.NoMemory) }
     ensures untouched { OnErr words (

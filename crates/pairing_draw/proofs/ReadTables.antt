@@ -7,10 +7,10 @@ use Rattle.team_files.specs.declared.team_id.TeamId.{TeamId}
 use Rattle.rule_sets.specs.Files.{DrawFile}
 use Rattle.count_core.specs.declared.lit.Lit.{Lit}
 use Rattle.count_core.specs.Assignments.{value_of, makes_true, SatisfiesRule, Satisfies, SatisfiesQuestion}
-use Rattle.count_core.proofs.Lists.{count_cons}
+use Rattle.count_core.proofs.Lists.{count_cons, each_at}
 use Rattle.draw_tables.specs.declared.moves.Move.{Move}
 use Rattle.draw_tables.specs.declared.moves.Move.TheVariants.{Drawn, Paired}
-use Rattle.draw_tables.specs.Pots.{winners, runners_up, AreTeamsOf}
+use Rattle.draw_tables.specs.Pots.{winners, runners_up, IsTeamOf, AreTeamsOf}
 use Rattle.draw_tables.specs.Pairings.{may_meet, GivesOpponent, IsLegalPairing}
 use Rattle.draw_tables.specs.States.{IsState}
 use Rattle.draw_tables.specs.Offers.{Extends}
@@ -155,19 +155,14 @@ values_complete file ms values kind state meets =
     let table = some_read values (length (runners_up file)) (winners file) (row_true file values meets.rules) in
     (pair_table table.0, (kind, legal file values meets.rules table.0 table.1), extends file values meets.rules table.0 table.1 ms kind state meets.moves)
 
--- a table that is read off gives teams of the file
-known : (file : DrawFile) (ws : List TeamId) (k : ℕ) (x : TeamId) → AreTeamsOf file ws → slice_get ws k ≡ Some x → x.0 < length file.teams
-known file [] k x h e = cc
-known file (w ∷ ws) zero x h e = let s = same_item w x e in rw (← s) h.0
-known file (w ∷ ws) (suc k) x h e = known file ws k x h.1 e
-
+-- teams that each are of the file
 are_teams : (file : DrawFile) (xs : List TeamId) → ((r : ℕ) (x : TeamId) → slice_get xs r ≡ Some x → x.0 < length file.teams) → AreTeamsOf file xs
 are_teams file [] h = tt
 are_teams file (x ∷ xs) h = (h 0 x refl, are_teams file xs (λ r y e. h (suc r) y e))
 
--- so its teams are of the file
+-- a table that is read off gives teams of the file
 pub read_teams : (file : DrawFile) (values : List Bool) (m : ℕ) (ws table : List TeamId) → AreTeamsOf file ws → IsRead values m ws table → AreTeamsOf file table
-read_teams file values m ws table h read = are_teams file table (λ r x e. let a = read.atoms r x e in known file ws a.0 x h a.1)
+read_teams file values m ws table h read = are_teams file table (λ r x e. let a = read.atoms r x e in each_at (λ t. IsTeamOf file t) ws a.0 x h a.1)
 
 -- ---- the reading, runner-up by runner-up
 

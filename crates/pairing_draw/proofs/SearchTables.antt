@@ -14,13 +14,13 @@ use Rattle.draw_tables.specs.declared.table.Table.TheVariants.{Pairs}
 use Rattle.draw_tables.specs.Pots.{winners, runners_up}
 use Rattle.draw_tables.specs.Pairings.{GivesOpponent, IsLegalPairing, may_meet}
 use Rattle.draw_tables.specs.Offers.{Extends, IsCompletable}
-use Rattle.draw_tables.proofs.Lists.{same_item, item_at}
+use Rattle.draw_tables.proofs.Lists.{same_item, item_at, map_at}
 use Rattle.draw_tables.proofs.Numbers.{same_id}
 use Rattle.draw_tables.proofs.PairRules.{may_meet_by, rules_kept}
 use Rattle.pairing_draw.specs.Search.{Finishes, allows, fits, grid_of, names_runner, row_of}
 use Rattle.draw_tables.proofs.PotOrder.{pot_once, pot_team}
 use Rattle.pairing_draw.proofs.SearchRanks.{Ranked, ranked, finishes, free_within, within_free}
-use Rattle.pairing_draw.proofs.WinnerRanks.{HasRanks, any_at, any_found, map_at, pair_table, rank_at, ranks_of, table_of, then_so, where_so}
+use Rattle.pairing_draw.proofs.WinnerRanks.{HasRanks, any_at, any_found, pair_table, rank_at, ranks_of, table_of, then_so, where_so}
 
 -- ---- moves
 

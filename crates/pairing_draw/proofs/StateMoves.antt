@@ -2,7 +2,6 @@
 use Rattle.std.proofs.Common.{◌≡◌, ◌+◌, ◌*◌, ◌<◌, Bool, true, false, not, List, [], ◌∷◌, ◌++◌, length, Option, Some, None, slice_get, ◌⊎◌, inl, inr, refl, sym, ap, ◌∙◌, subst}
 use Rattle.std.specs.Prelude.{◌==◌, ◌||◌, option_and_then}
 use Rattle.std.specs.List.{list_any, AllByRecursion as Each}
-use Rattle.std.specs.Option.{option_or}
 use Rattle.std.proofs.lemmas.Bool.{cases_Bool, eqb-true, eq-eqb, false_from_ne_true, or_left, or_right}
 use Rattle.std.proofs.lemmas.List.Folds.{list_any-append}
 use Rattle.std.proofs.lemmas.Option.{slice_get_within}
@@ -19,11 +18,12 @@ use Rattle.draw_tables.specs.declared.moves.Choice.{Choice}
 use Rattle.draw_tables.specs.declared.moves.Choice.TheVariants.{Team}
 use Rattle.draw_tables.specs.Lists.{IsAmong}
 use Rattle.draw_tables.specs.Pots.{winners, runners_up}
-use Rattle.draw_tables.specs.Moves.{last_drawn, drawn_team, is_drawn}
+use Rattle.draw_tables.specs.Moves.{last_drawn, is_drawn}
 use Rattle.draw_tables.specs.PairingPhases.{waiting_runner_up, has_opponent, undrawn_runners_up, unpaired_winners, is_paired, pairs_winner, pairing_phase_with}
 use Rattle.draw_tables.specs.States.{candidates_in, move_in, IsCandidateMove, AreMovesAfter, IsState}
 use Rattle.draw_tables.proofs.PotMembers.{among_kept, among_choices}
 use Rattle.draw_tables.proofs.StateMoves.{phase_of_pairing}
+use Rattle.draw_tables.proofs.NamedTeams.{last_has}
 use Rattle.draw_tables.proofs.Lists.{same_item, none_among}
 use Rattle.draw_tables.proofs.Numbers.{same_id}
 use Rattle.pairing_draw.specs.Encoding.{pair_lit, place_of, lits_of_moves}
@@ -52,15 +52,6 @@ Apart (Drawn t ∷ ms) = Apart ms
 Apart (Paired r w ∷ ms) = (is_paired w ms ≡ false) × Apart ms
 
 module _ (file : DrawFile) (kind : file.kind ≡ Kind.Pairing) where
-  last_known : (ms : List Move) (t : TeamId) → Each (IsKnown file) ms → last_drawn ms ≡ Some t → IsAmong (runners_up file) t
-  last_known [] t h e = cc
-  last_known (m ∷ ms) t h e = by_cases (last_drawn ms) refl m h.0 e (last_known ms t h.1)
-    where
-      by_cases : (o : Option TeamId) → last_drawn ms ≡ o → (m : Move) → IsKnown file m → option_or o (drawn_team m) ≡ Some t → (last_drawn ms ≡ Some t → IsAmong (runners_up file) t) → IsAmong (runners_up file) t
-      by_cases (Some s) is m k e rest = rest (is ∙ e)
-      by_cases None is (Drawn s) k e rest = let q : s ≡ t = cc in subst (IsAmong (runners_up file)) q k
-      by_cases None is (Paired s v) k e rest = cc
-
   wait_last : (ms : List Move) (r : TeamId) → waiting_runner_up ms ≡ Some r → last_drawn ms ≡ Some r
   wait_last ms r e = by_cases (last_drawn ms) e
     where
@@ -86,7 +77,7 @@ module _ (file : DrawFile) (kind : file.kind ≡ Kind.Pairing) where
   in_phase before h (Some r) is left are (Team t) m among e =
       let found = among_kept (λ w. not (is_paired w before)) (winners file) t (among_choices (unpaired_winners file before) t among) in
       subst (IsNext before) (same_item (Paired r t) m e) (record {
-        known = (last_known before r h (wait_last before r is), found.1);
+        known = (last_has (IsKnown file) (IsAmong (runners_up file)) (λ t k. k) before r h (wait_last before r is), found.1);
         fresh = λ w d. off (is_paired w before) (ap (λ x. not (is_paired x before)) (same_id w t (sym (eqb-true t.0 w.0 d))) ∙ found.0);
       })
     where

@@ -16,7 +16,7 @@ use Rattle.draw_tables.specs.declared.table.Table.TheVariants.{Pairs}
 use Rattle.draw_tables.specs.Pots.{winners, runners_up}
 use Rattle.draw_tables.specs.Pairings.{may_meet, IsLegalPairing}
 use Rattle.draw_tables.specs.Offers.{Extends}
-use Rattle.draw_tables.proofs.Lists.{item_at}
+use Rattle.draw_tables.proofs.Lists.{item_at, map_at}
 use Rattle.draw_tables.proofs.Numbers.{same_id}
 use Rattle.draw_tables.proofs.PairRules.{may_meet_by}
 use Rattle.pairing_draw.specs.Encoding.{atom_of, pair_lit, never, exactly_one, row_rule, column_rule, bans_of, rules_of, values_of_winners, place_of, lits_of_moves}
@@ -24,7 +24,7 @@ use Rattle.pairing_draw.specs.Correspondence.{TablesSatisfy, ValuesTellPairs}
 use Rattle.draw_tables.proofs.PotOrder.{pot_once, pot_team}
 use Rattle.pairing_draw.proofs.AtomNumbers.{OneBelow, one_below, each_below}
 use Rattle.pairing_draw.proofs.PlacedLists.{each_append, each_of_places, each_joined, get_joined, place_found}
-use Rattle.pairing_draw.proofs.WinnerRanks.{map_at, pair_table}
+use Rattle.pairing_draw.proofs.WinnerRanks.{pair_table}
 
 -- a rule that one of the literals is true
 pub one_satisfies : (values : List Bool) (lit : ℕ → Lit) (n : ℕ) → OneBelow (makes_true values) lit n → SatisfiesRule values (exactly_one (map lit (range_with_len 0 n)))

@@ -1,21 +1,14 @@
 -- The ranks of a table's teams in the list of the winners.
-use Rattle.std.proofs.Common.{Bool, List, Some, [], ap, arith, false, inl, inr, length, map, refl, slice_get, suc, sym, true, zero, ℕ, ◌<◌, ◌∙◌, ◌∷◌, ◌≡◌, ◌⊎◌}
+use Rattle.std.proofs.Common.{Bool, List, Some, [], ap, arith, false, inl, inr, length, refl, slice_get, suc, sym, true, zero, ℕ, ◌<◌, ◌∙◌, ◌∷◌, ◌≡◌, ◌⊎◌}
 use Rattle.std.specs.Prelude.{◌==◌, if◌then◌else◌}
 use Rattle.std.specs.List.{list_any}
-use Rattle.std.specs.Option.{option_map}
 use Rattle.std.proofs.lemmas.Bool.{eqb-true, eq-eqb, or_cases, or_left, or_right}
-use Rattle.std.proofs.lemmas.Option.{slice_get-map, slice_get_within}
+use Rattle.std.proofs.lemmas.Option.{slice_get_within}
 use Rattle.team_files.specs.declared.team_id.TeamId.{TeamId}
 use Rattle.draw_tables.specs.declared.table.Table.{Table}
 use Rattle.draw_tables.specs.declared.table.Table.TheVariants.{Pairs}
 use Rattle.draw_tables.proofs.Lists.{same_item, item_at}
 use Rattle.draw_tables.proofs.Numbers.{same_id}
-
--- ---- lists
-
--- what stands at a place of the images
-pub map_at : {A B : Type 0} (f : A → B) (xs : List A) (k : ℕ) (x : A) → slice_get xs k ≡ Some x → slice_get (map f xs) k ≡ Some (f x)
-map_at f xs k x e = slice_get-map f xs k ∙ ap (option_map f) e
 
 -- ---- tests
 

@@ -258,7 +258,7 @@ fn head_of_teams(alloc: Global, list: &str) -> Result<String, AllocError> {
 }
 
 #[test]
-fn the_first_fault_of_teams_is_fault_text(rt: HostRuntime) -> Result<(), Fail> {
+fn the_first_fault_of_teams_is_told(rt: HostRuntime) -> Result<(), Fail> {
     let alloc = rt.alloc();
     for line in LISTS.lines() {
         if let Some((fault, list)) = line.split_once(": ") {

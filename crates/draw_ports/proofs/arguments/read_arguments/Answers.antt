@@ -1,4 +1,3 @@
-use Rattle.std.proofs.Common.{refl}
 use Rattle.draw_ports.proofs.Words.{collected_behind}
 use Rattle.draw_ports.proofs.arguments.read_arguments.Goals as goal
 
