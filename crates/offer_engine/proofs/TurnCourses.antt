@@ -85,6 +85,9 @@ module _ (before : Offer) (command : Command) where
   pub waiting_wants : (next : State) (added : List Move) → IsCourse before.state command (Waiting next added) → Wants (turn_with before command (Waiting next added)) next
   waiting_wants next added h = ([], (added, h.0, h.1))
 
+  pub waiting_file : (next : State) (added : List Move) → IsCourse before.state command (Waiting next added) → next.file ≡ before.state.file
+  waiting_file next added h = ap (λ s. s.file) h.1
+
   pub taken_ready : (reply : Reply) (after : Offer) → IsCourse before.state command (Taken reply after) → IsReady (turn_with before command (Taken reply after))
   taken_ready reply after h = h.0
 

@@ -77,6 +77,7 @@ impl Turn {
     /// The state of the first needed offer that was not given. `None` exactly where all were.
     pub fn wants(&self) -> Option<&State>
         ensures wanted { IfSome result (λ next. Wants self.now next.now) }
+        ensures file { IfSome result (λ next. next.now.file ≡ self.now.before.state.file) }
         ensures ready { IsNone result ↔ IsReady self.now }
     {
         law_ready_or_waiting();

@@ -1,7 +1,7 @@
-use Rattle.std.proofs.Common.{refl}
+use Rattle.std.proofs.Common.{◌≡◌, refl}
 use Rattle.offer_engine.specs.declared.course.Course.TheVariants.{Refused, Waiting, Taken}
 use Rattle.offer_engine.specs.Turns.{IsReady, Replies, Wants}
-use Rattle.offer_engine.proofs.TurnCourses.{at_course, refused_ready, refused_replies, taken_ready, taken_replies, waiting_wants}
+use Rattle.offer_engine.proofs.TurnCourses.{waiting_file, at_course, refused_ready, refused_replies, taken_ready, taken_replies, waiting_wants}
 use Rattle.offer_engine.proofs.turn.Turn.wants.Goals as goal
 
 pub returns-in-Waiting-clause-ready : goal.returns-in-Waiting-clause-ready
@@ -30,3 +30,9 @@ returns-in-Waiting-clause-wanted c =
     let t = c.self.inside in
     at_course (λ u. Wants u c.in-Waiting.next) c.args.self.now t.before t.command t.course (Waiting c.in-Waiting.next c.in-Waiting.added) c.self.view_is c.in-Waiting.is c.self.invariant
     (waiting_wants t.before t.command c.in-Waiting.next c.in-Waiting.added)
+
+pub returns-in-Waiting-clause-file : goal.returns-in-Waiting-clause-file
+returns-in-Waiting-clause-file c =
+    let t = c.self.inside in
+    at_course (λ u. c.in-Waiting.next.file ≡ u.before.state.file) c.args.self.now t.before t.command t.course (Waiting c.in-Waiting.next c.in-Waiting.added) c.self.view_is c.in-Waiting.is c.self.invariant
+    (waiting_file t.before t.command c.in-Waiting.next c.in-Waiting.added)
