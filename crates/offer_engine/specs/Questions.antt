@@ -2,7 +2,7 @@
 use Rattle.std.specs.Prelude.{◌≡◌, ◌≢◌, ◌<◌, ℕ, List, [], ◌∷◌, ◌++◌, map, true, Option, Some, None, slice_get}
 use Rattle.rule_sets.specs.Files.{DrawFile}
 use Rattle.count_core.specs.declared.lit.Lit.{Lit}
-use Rattle.count_core.specs.Problems.{are_within}
+use Rattle.count_core.specs.Problems.{Problem, are_within}
 use Rattle.draw_tables.specs.declared.moves.Move.{Move}
 use Rattle.draw_tables.specs.declared.moves.Choice.{Choice}
 use Rattle.draw_tables.specs.declared.moves.Phase.{Phase}
@@ -56,8 +56,12 @@ abbrev pub asked : List Answering → List (List Lit)
 asked answers = map (λ a. a.question) answers
 
 -- each answer is of the problem
+abbrev pub AreAnswersOf : Problem → List Answering → Type 0
+AreAnswersOf problem answers = (a : Answering) → IsAmong answers a → a.problem ≡ problem
+
+-- each answer is of the problem of the file
 abbrev pub AreOfProblem : DrawFile → List Answering → Type 0
-AreOfProblem file answers = (a : Answering) → IsAmong answers a → a.problem ≡ rules_of file
+AreOfProblem file answers = AreAnswersOf (rules_of file) answers
 
 -- At this place an answer is missing, is not of the question, or is one too many.
 abbrev pub IsWrongAt : List (List Lit) → List Answering → ℕ → Type 0

@@ -1,11 +1,12 @@
 ghost use Rattle.std.specs.Prelude.{◌≡◌, IfOk};
-ghost use Rattle.offer_engine.specs.Questions.{AreOfProblem};
+ghost use Rattle.offer_engine.specs.Questions.{AreAnswersOf, AreOfProblem, AreWithin};
 
 use crate::{
     Encoded, NoMemory, Offer, OfferFault, Standing, Turn, TurnFault, law_one_wanted,
     law_ready_or_waiting, offer_from, questions,
 };
-use draw_state::{Command, NextLine, Refusal, Reply, State, StateFault, Word};
+use count_core::Question;
+use draw_state::{Command, NextLine, Refusal, Reply, State, Word};
 use draw_tables::{Choice, Move, Phase};
 use rule_sets::read_file;
 use samples::{ROUND_OF_16, TWO_TEAMS};
@@ -37,6 +38,26 @@ fn state_after(alloc: Global, enc: &Encoded, moves: &[Move]) -> Result<State, No
     Ok(state)
 }
 
+/// The answers to at most so many of the questions, in order.
+fn solve_each(
+    alloc: Global,
+    session: &mut Session,
+    asked: &[Question],
+    most: usize,
+) -> Result<Vec<Answer>, NoMemory>
+    requires { AreWithin session.old.problem.atoms asked.now }
+    ensures { IfOk result (λ v. AreAnswersOf session.old.problem v.items) }
+{
+    let mut answers = Vec::new(alloc);
+    for question in asked {
+        if answers.len() == most {
+            break;
+        }
+        answers.push(solve(alloc, question, session)?)?;
+    }
+    Ok(answers)
+}
+
 /// The answers to at most so many of the questions of a state.
 fn answers_to(
     alloc: Global,
@@ -47,15 +68,9 @@ fn answers_to(
     requires { state.now.file ≡ enc.now.file }
     ensures { IfOk result (λ v. AreOfProblem enc.now.file v.items) }
 {
-    let mut session = Session::new(alloc, Arc::try_clone(enc.problem())?)?;
     let asked = questions(alloc, enc, state)?;
-    let mut answers = Vec::new(alloc);
-    for question in &asked {
-        if answers.len() == most {
-            break;
-        }
-        answers.push(solve(alloc, question, &mut session)?)?;
-    }
+    let mut session = Session::new(alloc, Arc::try_clone(enc.problem())?)?;
+    let answers = solve_each(alloc, &mut session, &asked, most)?;
     Ok(answers)
 }
 
@@ -107,12 +122,20 @@ fn give_wanted(alloc: Global, enc: &Encoded, turn: &mut Turn) -> Result<(), NoMe
     }
 }
 
-/// The turn of a ball on the state after these moves, with the offer that it wants.
-fn played(alloc: Global, enc: &Encoded, moves: &[Move], code: &[u8]) -> Result<Turn, NoMemory> {
+/// The turn of a ball on the state after these moves.
+fn begun(alloc: Global, enc: &Encoded, moves: &[Move], code: &[u8]) -> Result<Turn, NoMemory>
+    ensures { IfOk result (λ t. t.before.state.file ≡ enc.now.file) }
+{
     let state = state_after(alloc, enc, moves)?;
     let before = offer_at(alloc, enc, &state)?;
-    let mut turn = Turn::begin(alloc, before, ball(code))?;
-    give_wanted(alloc, enc, &mut turn)?;
+    let turn = Turn::begin(alloc, before, ball(code))?;
+    Ok(turn)
+}
+
+/// The same with the offer that it wants.
+fn played(alloc: Global, enc: &Encoded, moves: &[Move], code: &[u8]) -> Result<Turn, NoMemory> {
+    let mut turn = begun(alloc, enc, moves, code)?;
+    let _given = give_wanted(alloc, enc, &mut turn);
     Ok(turn)
 }
 
@@ -203,19 +226,22 @@ fn no_answer_is_one_too_many(rt: HostRuntime) -> Result<(), Fail> {
     Ok(())
 }
 
-/// What a turn does with the offer of another state than the one that it wants.
-fn other_offer(alloc: Global, enc: &Encoded) -> Result<bool, NoMemory> {
-    let state = state_after(alloc, enc, &[Move::Drawn(RUNNER)])?;
-    let before = offer_at(alloc, enc, &state)?;
-    let other = before.clone_in(alloc)?;
-    let mut turn = Turn::begin(alloc, before, ball(b"AAA"))?;
-    if turn.wants().is_none() || turn.reply().is_some() || turn.after().is_some() {
-        return Ok(false);
-    }
-    let Err(TurnFault::WrongState { moves }) = turn.give(alloc, other) else {
-        return Ok(false);
+/// What a turn that has no reply yet says of the offer of the state before it.
+fn fault_of_old_offer(alloc: Global, turn: &mut Turn) -> Option<TurnFault> {
+    let Ok(other) = turn.before().clone_in(alloc) else {
+        return None;
     };
-    Ok(moves == 1 && turn.wants().is_some() && turn.before().state().moves().len() == 1)
+    if turn.wants().is_none() || turn.reply().is_some() || turn.after().is_some() {
+        return None;
+    }
+    turn.give(alloc, other).err()
+}
+
+/// The same of the turn of the second ball of the draw of two teams.
+fn old_offer(alloc: Global, enc: &Encoded) -> Result<Option<TurnFault>, NoMemory> {
+    let mut turn = begun(alloc, enc, &[Move::Drawn(RUNNER)], b"AAA")?;
+    let fault = fault_of_old_offer(alloc, &mut turn);
+    Ok(fault)
 }
 
 /// A turn of the draw of two teams: a refused ball needs no offer and adds no move; an accepted one
@@ -230,11 +256,11 @@ fn a_turn_wants_the_offer_after_its_ball(rt: HostRuntime) -> Result<(), Fail> {
     let refused = played(alloc, &enc, &drawn, b"BBB");
     let first = played(alloc, &enc, &[], b"BBB");
     let last = played(alloc, &enc, &drawn, b"AAA");
-    let other = other_offer(alloc, &enc);
+    let old = old_offer(alloc, &enc);
     drop(enc);
     let paired = Move::Paired(RUNNER, WINNER);
     let opponent = Phase::Opponent { runner: RUNNER };
-    assert!(rt; other?);
+    assert!(rt; old? == Some(TurnFault::WrongState { moves: 1 }));
     assert!(rt; matches!(ended(refused?), Some((Reply::Refused(Refusal::Phase), 1))));
     assert!(rt;
         match ended(first?) {
