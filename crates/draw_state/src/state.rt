@@ -125,6 +125,13 @@ impl State {
         self.moves.pop()
     }
 
+    /// Whether both are one state: one file, and the same moves.
+    pub fn equals(&self, other: &State) -> bool
+        ensures { IsTrue result ↔ (self.now ≡ other.now) }
+    {
+        self.file().equals(other.file()) && same_moves(self.moves(), other.moves())
+    }
+
     /// An equal state.
     pub fn clone_in(&self, alloc: Global) -> Result<State, NoMemory>
         ensures { IfOk result (λ s. s ≡ self.now) }
@@ -135,6 +142,13 @@ impl State {
             moves,
         })
     }
+}
+
+/// Whether the moves are the same, in the same order.
+fn same_moves(one: &[Move], other: &[Move]) -> bool
+    ensures { IsTrue result ↔ (one.now ≡ other.now) }
+{
+    one == other
 }
 
 /// Whether the move is a candidate's in the phase after the moves.

@@ -1,4 +1,4 @@
-ghost use Rattle.std.specs.Prelude.{◌≡◌, IfOk, Ok};
+ghost use Rattle.std.specs.Prelude.{◌≡◌, ◌↔◌, IfOk, IsTrue, Ok};
 ghost use Rattle.rule_sets.specs.Files.{IsWellFormed, file_of, file_with};
 
 use crate::limit::Limit;
@@ -89,6 +89,37 @@ impl DrawFile {
         })
     }
 
+    /// Whether both are one file: the same members, their lists in the same order.
+    pub fn equals(&self, other: &DrawFile) -> bool
+        ensures { IsTrue result ↔ (self.now ≡ other.now) }
+    {
+        self.has_same_numbers(other) && self.has_same_lists(other)
+    }
+
+    /// Whether the kind and the numbers of groups and pots are the same.
+    fn has_same_numbers(&self, other: &DrawFile) -> bool
+        ensures { IsTrue result
+            ↔ ((self.now.kind ≡ other.now.kind)
+            × (self.now.groups ≡ other.now.groups)
+            × (self.now.pots ≡ other.now.pots)) }
+    {
+        self.kind == other.kind && self.groups == other.groups && self.pots == other.pots
+    }
+
+    /// Whether the teams, the limits, the pairs and the places are the same.
+    fn has_same_lists(&self, other: &DrawFile) -> bool
+        ensures { IsTrue result
+            ↔ ((self.now.teams ≡ other.now.teams)
+            × (self.now.limits ≡ other.now.limits)
+            × (self.now.pairs ≡ other.now.pairs)
+            × (self.now.places ≡ other.now.places)) }
+    {
+        self.teams.equals(&other.teams)
+            && same_limits(self.limits(), other.limits())
+            && same_pairs(self.pairs(), other.pairs())
+            && same_places(self.places(), other.places())
+    }
+
     /// The kind of the draw.
     pub fn kind(&self) -> Kind
         ensures kind { result ≡ self.now.kind }
@@ -138,6 +169,27 @@ impl DrawFile {
     {
         self.places.as_slice()
     }
+}
+
+/// Whether the limits are the same, in the same order.
+fn same_limits(one: &[Limit], other: &[Limit]) -> bool
+    ensures { IsTrue result ↔ (one.now ≡ other.now) }
+{
+    one.len() == other.len() && one.iter().zip(other).all(|(x, y)| x.equals(y))
+}
+
+/// Whether the pairs are the same, in the same order.
+fn same_pairs(one: &[Pair], other: &[Pair]) -> bool
+    ensures { IsTrue result ↔ (one.now ≡ other.now) }
+{
+    one == other
+}
+
+/// Whether the places are the same, in the same order.
+fn same_places(one: &[Place], other: &[Place]) -> bool
+    ensures { IsTrue result ↔ (one.now ≡ other.now) }
+{
+    one == other
 }
 
 /// Equal limits.

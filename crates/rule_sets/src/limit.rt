@@ -1,4 +1,4 @@
-ghost use Rattle.std.specs.Prelude.{◌≡◌, IfOk};
+ghost use Rattle.std.specs.Prelude.{◌≡◌, ◌↔◌, IfOk, IsTrue};
 
 use std::alloc::Global;
 use team_files::{NoMemory, Tag};
@@ -12,6 +12,13 @@ pub struct Limit {
 }
 
 impl Limit {
+    /// Whether both have the same members.
+    pub fn equals(&self, other: &Limit) -> bool
+        ensures { IsTrue result ↔ (self.now ≡ other.now) }
+    {
+        self.tag.equals(&other.tag) && self.lo == other.lo && self.hi == other.hi
+    }
+
     /// An equal limit.
     pub fn clone_in(&self, alloc: Global) -> Result<Limit, NoMemory>
         ensures { IfOk result (λ limit. limit ≡ self.now) }

@@ -1,4 +1,4 @@
-ghost use Rattle.std.specs.Prelude.{◌≡◌, true, string_bytes, IfOk};
+ghost use Rattle.std.specs.Prelude.{◌≡◌, ◌↔◌, true, string_bytes, IfOk, IsTrue};
 ghost use Rattle.team_files.specs.Characters.{is_tag};
 
 use crate::code::are_code_characters;
@@ -50,6 +50,13 @@ impl Tag {
         Tag::copy(alloc, self.text.as_str())
     }
 
+    /// Whether both are one tag.
+    pub fn equals(&self, other: &Tag) -> bool
+        ensures { IsTrue result ↔ (self.now ≡ other.now) }
+    {
+        self.bytes() == other.bytes()
+    }
+
     /// Its bytes.
     pub fn bytes(&self) -> &[u8]
         ensures bytes { result.now ≡ self.now }
@@ -93,12 +100,26 @@ impl Tags {
         Ok(Tags::new(tags))
     }
 
+    /// Whether both are the same tags in the same order.
+    pub fn equals(&self, other: &Tags) -> bool
+        ensures { IsTrue result ↔ (self.now ≡ other.now) }
+    {
+        same_tags(self.as_slice(), other.as_slice())
+    }
+
     /// The tags in order.
     pub fn as_slice(&self) -> &[Tag]
         ensures { result.now ≡ self.now }
     {
         self.tags.as_slice()
     }
+}
+
+/// Whether the tags are the same, in the same order.
+fn same_tags(one: &[Tag], other: &[Tag]) -> bool
+    ensures { IsTrue result ↔ (one.now ≡ other.now) }
+{
+    one.len() == other.len() && one.iter().zip(other).all(|(x, y)| x.equals(y))
 }
 
 /// Whether the bytes are a tag.

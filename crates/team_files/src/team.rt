@@ -1,4 +1,4 @@
-ghost use Rattle.std.specs.Prelude.{◌≡◌, IfOk};
+ghost use Rattle.std.specs.Prelude.{◌≡◌, ◌↔◌, IfOk, IsTrue};
 
 use crate::code::Code;
 use crate::tag::Tags;
@@ -19,6 +19,17 @@ pub struct Team {
 }
 
 impl Team {
+    /// Whether both have the same members.
+    pub fn equals(&self, other: &Team) -> bool
+        ensures { IsTrue result ↔ (self.now ≡ other.now) }
+    {
+        self.code == other.code
+            && self.name.equals(&other.name)
+            && self.pot == other.pot
+            && self.tags.equals(&other.tags)
+            && self.group_letter == other.group_letter
+    }
+
     /// An equal team.
     pub fn clone_in(&self, alloc: Global) -> Result<Team, AllocError>
         ensures { IfOk result (λ team. team ≡ self.now) }

@@ -1,4 +1,4 @@
-ghost use Rattle.std.specs.Prelude.{◌≡◌, ◌≢◌, ◌<◌, ◌^◌, length, map, slice_get, Some, None, Ok, IfOk, IfErr};
+ghost use Rattle.std.specs.Prelude.{◌≡◌, ◌≢◌, ◌↔◌, ◌<◌, ◌^◌, length, map, slice_get, Some, None, Ok, IfOk, IfErr, IsTrue};
 ghost use Rattle.team_files.specs.Answers.{Gives, unless};
 ghost use Rattle.team_files.specs.Heads.{same_code_fault};
 ghost use Rattle.team_files.specs.Teams.{AreTeams, find};
@@ -60,6 +60,13 @@ impl Teams {
         }
     }
 
+    /// Whether both are the same teams in the same order.
+    pub fn equals(&self, other: &Teams) -> bool
+        ensures { IsTrue result ↔ (self.now ≡ other.now) }
+    {
+        same_teams(self.as_slice(), other.as_slice())
+    }
+
     /// The team that has the code, by its place in file order, from 0. `None` exactly where no team
     /// has it. It does not look through the teams.
     pub fn find(&self, code: Code) -> Option<TeamId>
@@ -92,6 +99,13 @@ impl Teams {
     {
         self.teams.len() as u32
     }
+}
+
+/// Whether the teams are the same, in the same order.
+fn same_teams(one: &[Team], other: &[Team]) -> bool
+    ensures { IsTrue result ↔ (one.now ≡ other.now) }
+{
+    one.len() == other.len() && one.iter().zip(other).all(|(x, y)| x.equals(y))
 }
 
 /// The codes of the teams in order, or the first one that an earlier team has.

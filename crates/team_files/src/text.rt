@@ -1,4 +1,4 @@
-ghost use Rattle.std.specs.Prelude.{◌≡◌, string_bytes, IfOk};
+ghost use Rattle.std.specs.Prelude.{◌≡◌, ◌↔◌, string_bytes, IfOk, IsTrue};
 
 use std::alloc::{AllocError, Global};
 use std::marker::Model;
@@ -37,6 +37,13 @@ impl Text {
         ensures { IfOk result (λ text. text ≡ self.now) }
     {
         Text::copy(alloc, self.text.as_str())
+    }
+
+    /// Whether both are one text.
+    pub fn equals(&self, other: &Text) -> bool
+        ensures { IsTrue result ↔ (self.now ≡ other.now) }
+    {
+        self.bytes() == other.bytes()
     }
 
     /// Its bytes.

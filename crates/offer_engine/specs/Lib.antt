@@ -1,0 +1,6 @@
+pub mod Encodings
+pub mod Questions
+pub mod Offers
+pub mod Turns
+pub mod Courses
+pub mod Faults

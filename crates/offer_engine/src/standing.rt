@@ -1,0 +1,28 @@
+ghost use Rattle.std.specs.Prelude.{◌≡◌, IfOk};
+
+use crate::NoMemory;
+use draw_tables::Table;
+use refutations::Closed;
+use std::alloc::Global;
+
+/// How a candidate stands.
+#[derive(Drop)]
+pub enum Standing {
+    /// It is offered: this is a legal table that extends the moves with its own.
+    Offered(Table),
+    /// It is not possible: no assignment satisfies the rules and the literals of the moves with its
+    /// own.
+    Excluded(Closed),
+}
+
+impl Standing {
+    /// An equal standing.
+    pub fn clone_in(&self, alloc: Global) -> Result<Standing, NoMemory>
+        ensures { IfOk result (λ s. s ≡ self.now) }
+    {
+        match self {
+            Standing::Offered(table) => Ok(Standing::Offered(table.clone_in(alloc)?)),
+            Standing::Excluded(closed) => Ok(Standing::Excluded(closed.clone_in(alloc)?)),
+        }
+    }
+}
