@@ -1,22 +1,17 @@
 -- What a turn keeps of its command, and what that says of the turn.
-use Rattle.std.specs.Prelude.{◌≡◌, ℕ, ◌<◌, List, [], ◌∷◌}
+use Rattle.std.specs.Prelude.{◌≡◌, List, [], ◌∷◌}
 use Rattle.draw_tables.specs.declared.moves.Move.{Move}
 use Rattle.draw_tables.specs.declared.moves.Choice.{Choice}
 use Rattle.draw_state.specs.declared.commands.Command.{Command}
 use Rattle.draw_state.specs.declared.replies.Refusal.{Refusal}
 use Rattle.draw_state.specs.declared.replies.Reply.{Reply}
-use Rattle.draw_state.specs.State.{State, RefusesFor}
-use Rattle.draw_state.specs.Commands.{most_commands, Adds}
+use Rattle.draw_state.specs.State.{State}
+use Rattle.draw_state.specs.Commands.{Adds}
 use Rattle.draw_state.specs.Runs.{IsNextLine, IsStepBelowLimit}
 use Rattle.offer_engine.specs.declared.course.Course.{Course}
 use Rattle.offer_engine.specs.declared.course.Course.TheVariants.{Refused, Waiting, Taken}
 use Rattle.offer_engine.specs.Offers.{Offer}
-use Rattle.offer_engine.specs.Turns.{AddsBelowLimit, LeadsTo, state_with}
-
--- below the limit of commands the command is refused for the cause
-abbrev pub RefusesBelowLimit : State → Command → Refusal → Type 0
-RefusesBelowLimit state command refusal =
-    (answered : ℕ) → answered < most_commands → RefusesFor state answered command refusal
+use Rattle.offer_engine.specs.Turns.{AddsBelowLimit, LeadsTo, RefusesBelowLimit, state_with}
 
 -- the reply is that the command is refused, for the cause that refuses it
 abbrev pub IsRefusal : State → Command → Reply → Type 0
@@ -27,7 +22,8 @@ IsRefusal state command reply =
 -- that it leads to is waited for, or was given.
 abbrev pub IsCourse : State → Command → Course → Type 0
 IsCourse state command (Refused reply) = IsRefusal state command reply
-IsCourse state command (Waiting next added) = AddsBelowLimit state command added × (next ≡ state_with state added)
+IsCourse state command (Waiting next added) =
+    AddsBelowLimit state command added × (next ≡ state_with state added)
 IsCourse state command (Taken reply after) =
     LeadsTo state command after.state
     × IsStepBelowLimit state.file state.moves command after.state.moves reply
@@ -52,5 +48,6 @@ pub record IsUngiven (state : State) (command : Command) (course : Course) : Typ
 -- The course is that of a ball of this choice, whose offer is waited for.
 abbrev pub TakesBall : State → Choice → Course → Type 0
 TakesBall state c (Refused reply) = ⊥
-TakesBall state c (Waiting next added) = Adds state.file state.moves c added × (next ≡ state_with state added)
+TakesBall state c (Waiting next added) =
+    Adds state.file state.moves c added × (next ≡ state_with state added)
 TakesBall state c (Taken reply after) = ⊥

@@ -8,15 +8,15 @@ use Rattle.offer_engine.specs.Questions.{questions, asked, IsFirstWrong}
 use Rattle.offer_engine.specs.Offers.{Offer}
 use Rattle.offer_engine.specs.Turns.{Turn, Wants, IsOfOtherState}
 
--- WrongQuestion names the first place whose answer is not that of the state's question there; memory
--- ran out only where the answers are those of the questions.
+-- WrongQuestion names the first place whose answer is not that of the state's question there. That
+-- memory ran out says nothing of the answers.
 abbrev pub IsOfferFault : State → List Answering → OfferFault → Type 0
 IsOfferFault state answers (OfferFault.WrongQuestion place) =
     IsFirstWrong (questions state.file state.moves) answers place
 IsOfferFault state answers OfferFault.NoMemory = Unit {0}
 
--- WrongState names the moves of an offer of another state; memory ran out only where the offer is the
--- wanted one.
+-- WrongState names the moves of an offer of another state. Memory ran out only where the offer is
+-- the wanted one.
 abbrev pub IsTurnFault : Turn → Offer → TurnFault → Type 0
 IsTurnFault turn offer (TurnFault.WrongState moves) = IsOfOtherState turn offer moves
 IsTurnFault turn offer TurnFault.NoMemory = Wants turn offer.state

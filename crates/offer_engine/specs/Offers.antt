@@ -1,4 +1,5 @@
--- The offer of a state with what shows it: a table for each offered choice, a refutation for each other candidate.
+-- The offer of a state with what shows it: a table for each offered choice, a refutation for each
+-- other candidate.
 use Rattle.std.specs.Prelude.{◌≡◌, List, [], ◌∷◌, ◌++◌, map, Option, Some, None}
 use Rattle.std.specs.List.{AllByRecursion as Each, filter_map}
 use Rattle.rule_sets.specs.Files.{DrawFile}
@@ -70,7 +71,8 @@ offered standings = filter_map (λ s. where_offered s.0 s.1) standings
 
 -- ---- what an offer is made of
 
--- The standing is what the outcome makes of it: an excluded choice keeps the refutation that was found.
+-- The standing is what the outcome makes of it: an excluded choice keeps the refutation that was
+-- found.
 abbrev pub ComesOf : Standing → Outcome → Type 0
 ComesOf (Offered table) outcome = WasPossible outcome
 ComesOf (Excluded closed) outcome = outcome ≡ Impossible closed
@@ -78,13 +80,16 @@ ComesOf (Excluded closed) outcome = outcome ≡ Impossible closed
 -- The standing comes of the answer to the choice's question.
 abbrev pub RestsOn : DrawFile → List Move → List Answering → Choice × Standing → Type 0
 RestsOn file ms answers s =
-    (a : Answering) × IsAmong answers a × (a.question ≡ question_of file ms s.0) × ComesOf s.1 a.outcome
+    (a : Answering) × IsAmong answers a × (a.question ≡ question_of file ms s.0)
+    × ComesOf s.1 a.outcome
 
 -- Each standing of the offer does.
 abbrev pub KeepsAnswers : List Answering → Offer → Type 0
-KeepsAnswers answers offer = Each (RestsOn offer.state.file offer.state.moves answers) offer.standings
+KeepsAnswers answers offer =
+    Each (RestsOn offer.state.file offer.state.moves answers) offer.standings
 
 -- So the candidates stand as is right, and as the answers have it.
-pub record StandAsAnswered (state : State) (answers : List Answering) (standings : List (Choice × Standing)) : Type 0 where
+pub record StandAsAnswered (state : State) (answers : List Answering)
+    (standings : List (Choice × Standing)) : Type 0 where
   pub exact : IsExact (offer_with state standings)
   pub kept : KeepsAnswers answers (offer_with state standings)

@@ -13,15 +13,25 @@ use Rattle.offer_engine.specs.Offers.{Offer}
 
 -- ---- the offers that a command needs
 
--- below the limit of commands the command is refused for a cause
+-- below the limit of commands the command is refused for the cause
+abbrev pub RefusesBelowLimit : State → Command → Refusal → Type 0
+RefusesBelowLimit state command refusal =
+    (answered : ℕ) → answered < most_commands → RefusesFor state answered command refusal
+
+-- below the limit of commands the command is refused
 abbrev pub IsRefusedBelowLimit : State → Command → Type 0
 IsRefusedBelowLimit state command =
-    (refusal : Refusal) × ((answered : ℕ) → answered < most_commands → RefusesFor state answered command refusal)
+    (refusal : Refusal) × RefusesBelowLimit state command refusal
+
+-- below the limit of commands the command is accepted, with the action
+abbrev pub AcceptsBelowLimit : State → Command → Action → Type 0
+AcceptsBelowLimit state command action =
+    (answered : ℕ) → answered < most_commands → Accepts state answered command action
 
 -- below the limit of commands the command is accepted, and adds these moves
 abbrev pub AddsBelowLimit : State → Command → List Move → Type 0
 AddsBelowLimit state command added =
-    (c : Choice) × ((answered : ℕ) → answered < most_commands → Accepts state answered command (Action.Ball c))
+    (c : Choice) × AcceptsBelowLimit state command (Action.Ball c)
     × Adds state.file state.moves c added
 
 -- the state with moves added
@@ -59,7 +69,9 @@ IsReady turn = Needs turn.before.state turn.command (states_of turn.given)
 
 -- The first needed offer that was not given is that of this state.
 abbrev pub Wants : Turn → State → Type 0
-Wants turn next = (more : List State) × Needs turn.before.state turn.command (states_of turn.given ++ next ∷ more)
+Wants turn next =
+    (more : List State)
+    × Needs turn.before.state turn.command (states_of turn.given ++ next ∷ more)
 
 -- A turn is not both.
 abbrev pub ReadyOrWaiting : Type 0
@@ -81,11 +93,16 @@ after_of turn = last_of turn.before turn.given
 -- The reply is that of one command, which leads to the state of the offer after the turn.
 abbrev pub Replies : Turn → Reply → Type 0
 Replies turn reply =
-    IsStepBelowLimit turn.before.state.file turn.before.state.moves turn.command (after_of turn).state.moves reply
+    IsStepBelowLimit turn.before.state.file turn.before.state.moves turn.command
+    (after_of turn).state.moves reply
 
 -- the turn with one more offer given
 abbrev pub with_offer : Turn → Offer → Turn
-with_offer turn offer = record { before = turn.before; command = turn.command; given = turn.given ++ offer ∷ [] }
+with_offer turn offer = record {
+  before = turn.before;
+  command = turn.command;
+  given = turn.given ++ offer ∷ [];
+}
 
 -- The turn was begun with these.
 pub record IsBegun (before : Offer) (command : Command) (turn : Turn) : Type 0 where

@@ -24,7 +24,8 @@ use std::alloc::Global;
 use team_files::Kind;
 
 /// The offer that the answers to a state's questions make. `WrongQuestion` comes exactly where they
-/// are not the answers to these, one for each in order, and names the first place where they are not.
+/// are not the answers to these, one for each in order, and names the first place where they are
+/// not.
 pub fn offer_from(
     alloc: Global,
     enc: &Encoded,
@@ -196,8 +197,8 @@ fn standing_of(alloc: Global, state: &State, answer: &Answer) -> Result<Standing
     }
 }
 
-/// The table of values that satisfy the rules and the literals of a state's moves, by the kind of the
-/// draw.
+/// The table of values that satisfy the rules and the literals of a state's moves, by the kind of
+/// the draw.
 fn table_of(alloc: Global, state: &State, values: &[bool]) -> Result<Table, NoMemory>
     requires rules { Satisfies values.now (rules_of state.now.file) }
     requires moves { SatisfiesQuestion values.now (lits_of state.now.file state.now.moves) }

@@ -16,9 +16,9 @@ use rule_sets::law_files_have_form;
 use std::alloc::Global;
 use team_files::Kind;
 
-/// The questions of a state, in order: one of each candidate, the literals of the moves with the
-/// candidate's own; in the phase Runner one for all, that of the moves alone, since a drawn ball has
-/// no literal; none in the phase Complete.
+/// The questions of a state, in order: one of each candidate, the literals of the moves with its
+/// own; in the phase Runner one for all, that of the moves alone, since a drawn ball has no literal;
+/// none in the phase Complete.
 pub fn questions(alloc: Global, enc: &Encoded, state: &State) -> Result<Vec<Question>, NoMemory>
     requires { state.now.file ≡ enc.now.file }
     ensures questions { IfOk result (λ v. v.items ≡ questions state.now.file state.now.moves) }

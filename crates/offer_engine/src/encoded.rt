@@ -11,8 +11,8 @@ use std::marker::Model;
 use std::sync::Arc;
 use team_files::Kind;
 
-/// A draw file with its count problem, which by its type is that of the file. Contracts see a record
-/// of `file` and `problem`, its value.
+/// A draw file with its count problem, which by its type is that of the file. Contracts see a
+/// record of `file` and `problem`, its value.
 #[derive(Drop)]
 pub struct Encoded {
     file: DrawFile,

@@ -1,9 +1,9 @@
-//! Offers and turns: the questions of a state, the offer that their answers make, and one command on
-//! a state.
+//! Offers and turns: the questions of a state, the offer that their answers make, and one command
+//! on a state.
 //!
 //! An `Offer` is exact by its type: each candidate stands in it with a legal table that extends the
-//! moves with its own, or with a refutation of the literals of those moves. A `Turn` is one command;
-//! it wants the offer of the state that the command leads to, and then has the reply.
+//! moves with its own, or with a refutation of the literals of those moves. A `Turn` is one
+//! command; it wants the offer of the state that the command leads to, and then has the reply.
 //!
 //! A call that answers `NoMemory` does so only where memory ran out; every other call takes no
 //! memory. A law does nothing: its clause is what it is for.

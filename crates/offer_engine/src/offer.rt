@@ -13,8 +13,8 @@ use std::alloc::Global;
 use std::marker::Model;
 
 /// A state with its offer, exact by its type: all candidates in order, each with a legal table that
-/// extends the moves with its own, or with a refutation of the literals of those moves. Contracts see
-/// a record of `state` and `standings`.
+/// extends the moves with its own, or with a refutation of the literals of those moves. Contracts
+/// see a record of `state` and `standings`.
 #[derive(Drop)]
 pub struct Offer {
     state: State,

@@ -22,9 +22,9 @@ use rule_sets::law_files_have_form;
 use std::alloc::Global;
 use std::marker::Model;
 
-/// One command on a state, right by its type. It wants the offer of the state that the command leads
-/// to; where the command is refused it wants none. Then it has the reply. Contracts see a record of
-/// `before`, `command` and `given`, the offers that were given.
+/// One command on a state, right by its type. It wants the offer of the state that the command
+/// leads to; where the command is refused it wants none. Then it has the reply. Contracts see a
+/// record of `before`, `command` and `given`, the offers that were given.
 #[derive(Drop)]
 pub struct Turn {
     before: Offer,
@@ -116,8 +116,8 @@ impl Turn {
         Ok(())
     }
 
-    /// The reply, that of one command, which leads to the state of `after`. `Some` exactly where all
-    /// needed offers were given.
+    /// The reply, that of one command, which leads to the state of `after`. `Some` exactly where
+    /// all needed offers were given.
     pub fn reply(&self) -> Option<&Reply>
         ensures reply { IfSome result (λ r. Replies self.now r.now) }
         ensures ready { IsSome result ↔ IsReady self.now }
