@@ -39,14 +39,14 @@ pub question_later : (state later : State) (c : Choice) → AddsMoveOf state c l
 question_later state later c h =
     ap (λ f. lits_of f later.moves) h.2 ∙ ap (λ ms. lits_of state.file ms) h.3 ∙ question_is state.file state.moves c h.0 h.1
 
--- one question more
-pub within_push : (atoms : ℕ) (qs : List (List Lit)) (q : List Lit) → AreWithin atoms qs → are_within atoms q ≡ true → AreWithin atoms (qs ++ q ∷ [])
-within_push atoms [] q all own x (zero, e) = subst (λ y. are_within atoms y ≡ true) (same_item q x e) own
-within_push atoms [] q all own x (suc k, e) = cc
-within_push atoms (r ∷ qs) q all own x (zero, e) = all x (0, e)
-within_push atoms (r ∷ qs) q all own x (suc k, e) = within_push atoms qs q (λ y h. all y (suc h.0, h.1)) own x (k, e)
-
 -- ---- lists by their places
+
+-- one item more that has the property
+pub among_push : {A : Type 0} (P : A → Type 0) (xs : List A) (y : A) → ((x : A) → IsAmong xs x → P x) → P y → (x : A) → IsAmong (xs ++ y ∷ []) x → P x
+among_push P [] y all own x (zero, e) = subst P (same_item y x e) own
+among_push P [] y all own x (suc k, e) = cc
+among_push P (z ∷ xs) y all own x (zero, e) = all x (0, e)
+among_push P (z ∷ xs) y all own x (suc k, e) = among_push P xs y (λ w h. all w (suc h.0, h.1)) own x (k, e)
 
 -- lists that have the same at each place
 pub same_places : {A : Type 0} (xs ys : List A) → ((k : ℕ) → slice_get xs k ≡ slice_get ys k) → xs ≡ ys

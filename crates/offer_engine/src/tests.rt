@@ -148,14 +148,40 @@ fn ended(turn: Turn) -> Option<(Reply, usize)> {
     Some((reply, after.state().moves().len()))
 }
 
-/// Whether the reply is that the ball added this move, and the phase with these choices comes next.
-fn is_taken(reply: &Reply, added: Move, next_phase: Phase, next_choices: &[Choice]) -> bool {
+/// Whether a ball after these moves is refused for the phase, and leaves them.
+fn refuses(alloc: Global, enc: &Encoded, moves: &[Move], code: &[u8]) -> Result<bool, NoMemory> {
+    let turn = played(alloc, enc, moves, code)?;
+    let Some((reply, number)) = ended(turn) else {
+        return Ok(false);
+    };
+    Ok(matches!(reply, Reply::Refused(Refusal::Phase)) && number == moves.len())
+}
+
+/// Whether a ball after these moves is taken with this move, and the phase comes next.
+fn takes(
+    alloc: Global,
+    enc: &Encoded,
+    moves: &[Move],
+    code: &[u8],
+    added: Move,
+    phase: Phase,
+) -> Result<bool, NoMemory> {
+    let turn = played(alloc, enc, moves, code)?;
+    let Some((reply, number)) = ended(turn) else {
+        return Ok(false);
+    };
+    Ok(is_taken(&reply, added, phase) && number == moves.len() + 1)
+}
+
+/// Whether the reply is that the ball added this move, and the phase comes next, with the one winner
+/// where it waits for a ball.
+fn is_taken(reply: &Reply, added: Move, next_phase: Phase) -> bool {
     let Reply::Taken { moves, next } = reply else {
         return false;
     };
     let follows = match next {
         NextLine::Choices { phase, choices } => {
-            *phase == next_phase && choices.as_slice() == next_choices
+            *phase == next_phase && choices.as_slice() == [Choice::Team(WINNER)].as_slice()
         }
         NextLine::Complete => next_phase == Phase::Complete,
         NextLine::Impossible => false,
@@ -166,6 +192,9 @@ fn is_taken(reply: &Reply, added: Move, next_phase: Phase, next_choices: &[Choic
 const RUNNER: TeamId = TeamId(1);
 
 const WINNER: TeamId = TeamId(0);
+
+/// A runner-up of the round of 16.
+const VIL: TeamId = TeamId(13);
 
 /// How many candidates of a state are offered and how many are not.
 fn counted(alloc: Global, enc: &Encoded, state: &State) -> Result<(usize, usize), NoMemory>
@@ -181,45 +210,62 @@ fn counted(alloc: Global, enc: &Encoded, state: &State) -> Result<(usize, usize)
     Ok((offered, offer.standings().len() - offered))
 }
 
+/// In the round of 16, what the answers after a ball are for the opening, what they are with one
+/// missing, and what they are after the ball.
+fn faults(alloc: Global, enc: &Encoded) -> Result<[Option<OfferFault>; 3], NoMemory> {
+    let opening = state_after(alloc, enc, &[])?;
+    let drawn = state_after(alloc, enc, &[Move::Drawn(VIL)])?;
+    let of_another = fault_of(alloc, enc, &opening, &drawn, usize::MAX);
+    let one_missing = fault_of(alloc, enc, &drawn, &drawn, 7);
+    let right = fault_of(alloc, enc, &drawn, &drawn, usize::MAX);
+    drop(opening);
+    drop(drawn);
+    Ok([of_another?, one_missing?, right?])
+}
+
+/// How many candidates after these moves are offered and how many are not.
+fn numbers(alloc: Global, enc: &Encoded, moves: &[Move]) -> Result<(usize, usize), NoMemory> {
+    let state = state_after(alloc, enc, moves)?;
+    counted(alloc, enc, &state)
+}
+
 /// In the round of 16 the questions of the opening are not those after a ball, and each answer is
 /// wanted. VIL, the first ball, may meet six of the eight winners.
 #[test]
 fn answers_are_those_of_the_questions(rt: HostRuntime) -> Result<(), Fail> {
     let alloc = rt.alloc();
     let enc = encoded(alloc, ROUND_OF_16)?;
-    let opening = state_after(alloc, &enc, &[])?;
-    let drawn = state_after(alloc, &enc, &[Move::Drawn(TeamId(13))])?;
-    let of_another = fault_of(alloc, &enc, &opening, &drawn, usize::MAX);
-    let one_missing = fault_of(alloc, &enc, &drawn, &drawn, 7);
-    let right = fault_of(alloc, &enc, &drawn, &drawn, usize::MAX);
-    let all = counted(alloc, &enc, &opening);
-    let some = counted(alloc, &enc, &drawn);
-    drop(opening);
-    drop(drawn);
+    let faults = faults(alloc, &enc);
+    let all = numbers(alloc, &enc, &[]);
+    let some = numbers(alloc, &enc, &[Move::Drawn(VIL)]);
     drop(enc);
-    assert!(rt; of_another? == Some(OfferFault::WrongQuestion { place: 0 }));
-    assert!(rt; one_missing? == Some(OfferFault::WrongQuestion { place: 7 }));
-    assert!(rt; right?.is_none());
+    let [of_another, one_missing, right] = faults?;
+    assert!(rt; of_another == Some(OfferFault::WrongQuestion { place: 0 }));
+    assert!(rt; one_missing == Some(OfferFault::WrongQuestion { place: 7 }));
+    assert!(rt; right.is_none());
     assert!(rt; all? == (8, 0));
     assert!(rt; some? == (6, 2));
     Ok(())
 }
 
-/// Where the draw of two teams is complete, no answer is wanted, and one is one too many.
-#[test]
-fn no_answer_is_one_too_many(rt: HostRuntime) -> Result<(), Fail> {
-    let alloc = rt.alloc();
-    let enc = encoded(alloc, TWO_TEAMS)?;
-    let opening = state_after(alloc, &enc, &[])?;
+/// In the draw of two teams, what so many answers of the opening are where the draw is complete.
+fn fault_at_end(alloc: Global, enc: &Encoded, most: usize) -> Result<Option<OfferFault>, NoMemory> {
+    let opening = state_after(alloc, enc, &[])?;
     let end = state_after(
         alloc,
-        &enc,
+        enc,
         &[Move::Drawn(RUNNER), Move::Paired(RUNNER, WINNER)],
     )?;
-    let none = fault_of(alloc, &enc, &end, &opening, 0);
-    let one = fault_of(alloc, &enc, &end, &opening, 1);
-    drop(opening);
-    drop(end);
+    fault_of(alloc, enc, &end, &opening, most)
+}
+
+/// Where the draw of two teams is complete, no answer is wanted, and one is one too many.
+#[test]
+fn one_answer_is_one_too_many(rt: HostRuntime) -> Result<(), Fail> {
+    let alloc = rt.alloc();
+    let enc = encoded(alloc, TWO_TEAMS)?;
+    let none = fault_at_end(alloc, &enc, 0);
+    let one = fault_at_end(alloc, &enc, 1);
     drop(enc);
     assert!(rt; none?.is_none());
     assert!(rt; one? == Some(OfferFault::WrongQuestion { place: 0 }));
@@ -253,26 +299,16 @@ fn a_turn_wants_the_offer_after_its_ball(rt: HostRuntime) -> Result<(), Fail> {
     let alloc = rt.alloc();
     let enc = encoded(alloc, TWO_TEAMS)?;
     let drawn = [Move::Drawn(RUNNER)];
-    let refused = played(alloc, &enc, &drawn, b"BBB");
-    let first = played(alloc, &enc, &[], b"BBB");
-    let last = played(alloc, &enc, &drawn, b"AAA");
-    let old = old_offer(alloc, &enc);
-    drop(enc);
     let paired = Move::Paired(RUNNER, WINNER);
     let opponent = Phase::Opponent { runner: RUNNER };
+    let refused = refuses(alloc, &enc, &drawn, b"BBB");
+    let first = takes(alloc, &enc, &[], b"BBB", drawn[0], opponent);
+    let last = takes(alloc, &enc, &drawn, b"AAA", paired, Phase::Complete);
+    let old = old_offer(alloc, &enc);
+    drop(enc);
+    assert!(rt; refused?);
+    assert!(rt; first?);
+    assert!(rt; last?);
     assert!(rt; old? == Some(TurnFault::WrongState { moves: 1 }));
-    assert!(rt; matches!(ended(refused?), Some((Reply::Refused(Refusal::Phase), 1))));
-    assert!(rt;
-        match ended(first?) {
-            Some((reply, 1)) => is_taken(&reply, drawn[0], opponent, &[Choice::Team(WINNER)]),
-            _ => false,
-        }
-    );
-    assert!(rt;
-        match ended(last?) {
-            Some((reply, 2)) => is_taken(&reply, paired, Phase::Complete, &[]),
-            _ => false,
-        }
-    );
     Ok(())
 }

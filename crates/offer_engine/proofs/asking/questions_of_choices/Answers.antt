@@ -4,7 +4,7 @@ use Rattle.count_core.specs.Problems.{are_within}
 use Rattle.draw_tables.specs.declared.moves.Choice.{Choice}
 use Rattle.offer_engine.specs.Encodings.{rules_of}
 use Rattle.offer_engine.specs.Questions.{question_of}
-use Rattle.offer_engine.proofs.StateQuestions.{question_later, within_push}
+use Rattle.offer_engine.proofs.StateQuestions.{question_later, among_push}
 use Rattle.offer_engine.proofs.asking.questions_of_choices.Goals as goal
 
 abbrev none : Choice
@@ -22,5 +22,5 @@ loop-choice-preserved c =
     rw c.in_ok-push.ensures.items (
       ap (λ qs. qs ++ q ∷ []) c.loop-choice.invariant.0 ∙ ap (λ x. map (question_of state.file state.moves) (take i c.args.choices.now) ++ x ∷ []) asks
           ∙ sym (map_more (question_of state.file state.moves) c.args.choices.now i none c.loop-choice-test.true),
-      within_push (rules_of state.file).atoms c.loop-choice.asked.items q c.loop-choice.invariant.1 within,
+      among_push (λ x. are_within (rules_of state.file).atoms x ≡ true) c.loop-choice.asked.items q c.loop-choice.invariant.1 within,
     )
