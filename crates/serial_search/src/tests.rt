@@ -240,3 +240,39 @@ fn pigeons(rt: HostRuntime) -> Result<(), Fail> {
     }
     Ok(())
 }
+
+fn hall(alloc: Global, k: u32) -> Result<SharedProblem, Fail> {
+    let mut rules = Vec::new(alloc);
+    for runner in 0..20 {
+        let mut row = Vec::new(alloc);
+        for winner in 0..20 {
+            if runner >= k || winner + 1 < k {
+                row.push(runner * 20 + winner)?;
+            }
+        }
+        rules.push(rule_of(alloc, row.as_slice(), 1, 1)?)?;
+    }
+    for winner in 0..20 {
+        let mut row = Vec::new(alloc);
+        for runner in 0..20 {
+            if runner >= k || winner + 1 < k {
+                row.push(runner * 20 + winner)?;
+            }
+        }
+        rules.push(rule_of(alloc, row.as_slice(), 1, 1)?)?;
+    }
+    shared(alloc, 400, rules)
+}
+
+#[test]
+fn halls(rt: HostRuntime) -> Result<(), Fail> {
+    let alloc = rt.alloc();
+    for k in 3..11 {
+        let problem = hall(alloc, k)?;
+        let mut session = Session::new(alloc, problem)?;
+        let question = question_of(alloc, 400, &[])?;
+        let (possible, steps, opened, counts) = ask(alloc, &mut session, &question)?;
+        println!(&rt; "{k} {possible} {steps} {opened} {counts:?}")?;
+    }
+    Ok(())
+}
