@@ -59,7 +59,8 @@ fn take_turn(
     ensures keeps { spec.KeepsFront base.0 engine.old.entries engine.new.entries }
 {
     if let Found::Conflict { cause } = set_what_follows(engine, work) {
-        return resolve(alloc, log, engine, work, cause, base);
+        let ended = resolve(alloc, log, engine, work, cause, base)?;
+        return Ok(ended);
     }
     let Some(split) = pick(engine, heuristic) else {
         return Ok(Some(Side::Found));
