@@ -1,6 +1,7 @@
 -- What a side closes, and the sides of a split merged.
-use Rattle.std.proofs.Common.{◌≡◌, ℕ, ◌+◌, ◌<◌, ◌≤◌, Bool, true, false, not, List, [], ◌∷◌, ◌++◌, length, take, refl, sym, ap, ◌∙◌, subst, Option, Some, None, arith, ◌⊎◌, inl, inr}
+use Rattle.std.proofs.Common.{◌≡◌, ℕ, zero, suc, ◌+◌, ◌<◌, ◌≤◌, Bool, true, false, not, List, [], ◌∷◌, ◌++◌, length, length-take, take, drop, refl, sym, ap, ◌∙◌, subst, Option, Some, None, arith, ◌⊎◌, inl, inr}
 use Rattle.std.specs.Prelude.{replicate, Contains}
+use Rattle.std.proofs.lemmas.List.{length-append, take-append-le, take-take, take_all}
 use Rattle.count_core.specs.declared.lit.Lit.{Lit}
 use Rattle.count_core.specs.declared.atom.Atom.{Atom}
 use Rattle.count_core.specs.Assignments.{negation}
@@ -11,7 +12,8 @@ use Rattle.refutations.specs.Joins.{AreSides, AreSideSteps, IsOfSides, IsJoined}
 use Rattle.propagation.specs.Trails.{Entry, with_entry, values_of, IsFree}
 use Rattle.propagation.specs.Engines.{Engine, values_in, IsSound}
 use Rattle.serial_search.specs.Assumptions.{assumed_of}
-use Rattle.serial_search.specs.Sides.{IsLonger, IsClosedBy, AreClosedSides}
+use Rattle.serial_search.specs.declared.side.Side.{Side}
+use Rattle.serial_search.specs.Sides.{IsLonger, KeepsFront, IsClosedBy, IsSide, AreClosedSides}
 use Rattle.serial_search.proofs.Negations.{member_of_each, each_of_members, negates_before, before_last, before_unlike, negation_twice, same_literal}
 use Rattle.serial_search.proofs.Trails.{assumed_entry, assumed_value, longer_by, longer_still, back_at_mark}
 
@@ -77,3 +79,38 @@ free_again old new before after split mark problem is at longer free =
 pub split_longer : (old before decided after : List Entry) (split : Lit) → IsLonger old before → decided ≡ with_entry before split None → IsLonger decided after → IsLonger old after
 split_longer old before decided after split longer is on =
     longer_still old before after longer (longer_still before (with_entry before split None) after (longer_by before split None) (subst (λ es. IsLonger es after) is on))
+
+-- ---- the front of a trail
+
+pub keeps_longer : (n : ℕ) (old new : List Entry) → n ≤ length old → IsLonger old new → KeepsFront n old new
+keeps_longer n old new le h = record {
+  front = rw h.entries (take-append-le n old h.more le);
+  within = rw h.entries (omega (arith, length-append old h.more));
+}
+
+pub keeps_back : (n m : ℕ) (old new : List Entry) → n ≤ m → m ≤ length old → new ≡ take m old → KeepsFront n old new
+keeps_back n m old new le within is = record {
+  front = rw is (take-take n m old le);
+  within = rw is (omega (arith, length-take m old));
+}
+
+pub keeps_on : (n : ℕ) (a b c : List Entry) → KeepsFront n a b → KeepsFront n b c → KeepsFront n a c
+keeps_on n a b c h g = record { front = g.front ∙ h.front; within = g.within }
+
+pub keeps_all : (n : ℕ) (es : List Entry) → n ≤ length es → KeepsFront n es es
+keeps_all n es le = record { front = refl; within = le }
+
+parts : (n : ℕ) (es : List Entry) → es ≡ take n es ++ drop n es
+parts zero es = refl
+parts (suc n) [] = refl
+parts (suc n) (e ∷ es) = ap (λ xs. e ∷ xs) (parts n es)
+
+-- where the front is the whole of the older trail
+pub front_whole : (n : ℕ) (old new : List Entry) → n ≡ length old → KeepsFront n old new → take n new ≡ old
+front_whole n old new is h = h.front ∙ take_all n old (omega arith)
+
+pub front_longer : (n : ℕ) (old new : List Entry) → n ≡ length old → KeepsFront n old new → IsLonger old new
+front_longer n old new is h = record { more = drop n new; entries = parts n new ∙ ap (λ xs. xs ++ drop n new) (front_whole n old new is h) }
+
+pub side_same : (log : Derivation) (e : Engine) (ls ms : List Lit) (s : Side) → ls ≡ ms → IsSide log e ls s → IsSide log e ms s
+side_same log e ls ms s is h = subst (λ xs. IsSide log e xs s) is h

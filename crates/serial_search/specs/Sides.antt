@@ -1,5 +1,5 @@
 -- One side of the search: what holds before and after it.
-use Rattle.std.specs.Prelude.{◌≡◌, ℕ, ◌<◌, List, [], ◌∷◌, ◌++◌, length, Bool, false, Option, Some, None, slice_get, map, Contains}
+use Rattle.std.specs.Prelude.{◌≡◌, ℕ, ◌<◌, ◌≤◌, take, List, [], ◌∷◌, ◌++◌, length, Bool, false, Option, Some, None, slice_get, map, Contains}
 use Rattle.std.specs.List.{AllByRecursion}
 use Rattle.std.specs.Option.{unwrap_or}
 use Rattle.count_core.specs.declared.lit.Lit.{Lit}
@@ -36,6 +36,11 @@ pub record IsContinued (old new : Derivation) : Type 0 where
 pub record IsLonger (old new : List Entry) : Type 0 where
   pub more : List Entry
   pub entries : new ≡ old ++ more
+
+-- The first n entries are there and as before.
+pub record KeepsFront (n : ℕ) (old new : List Entry) : Type 0 where
+  pub front : take n new ≡ take n old
+  pub within : n ≤ length new
 
 -- The step is there, and its clause holds only negations of the literals.
 pub record IsClosedBy (log : Derivation) (lits : List Lit) (n : ℕ) : Type 0 where

@@ -9,6 +9,8 @@ use std::alloc::Global;
 pub(crate) struct Proposal {
     pub(crate) clause: Vec<Lit>,
     pub(crate) hints: Vec<Hint>,
+    /// Behind this place of the trail the clause forces the negation of its unique point.
+    pub(crate) back: usize,
 }
 
 /// The analysis of conflicts: marks by atom, all of them false between two conflicts.
@@ -101,6 +103,7 @@ impl Analysis {
         let trail = engine.trail();
         let mut clause = Vec::new(alloc);
         let mut hints = Vec::new(alloc);
+        let mut back = 0;
         if let Some(rule) = constraint_of(engine.problem(), steps, conflict) {
             self.need(engine, rule.reason_of_conflict(engine.values(), conflict));
         }
@@ -118,12 +121,21 @@ impl Analysis {
                     }
                     self.need(engine, reason);
                 }
-                _ => clause.push(lit.negation())?,
+                _ => {
+                    clause.push(lit.negation())?;
+                    if back == 0 && is_earlier(place, kept) {
+                        back = place.saturating_add(1);
+                    }
+                }
             }
         }
         hints.reverse();
         hints.push(conflict)?;
-        Ok(Proposal { clause, hints })
+        Ok(Proposal {
+            clause,
+            hints,
+            back,
+        })
     }
 
     /// Whether the needed literal at the place, which has a reason, is kept.
@@ -167,6 +179,14 @@ impl Analysis {
             self.open = self.open.saturating_sub(1);
         }
         true
+    }
+}
+
+/// Whether the place is before the last decision.
+fn is_earlier(place: usize, kept: Kept) -> bool {
+    match kept {
+        Kept::Assumed => false,
+        Kept::UniquePoint { level, .. } => place < level,
     }
 }
 

@@ -63,7 +63,7 @@ fn close_by_analysis(
     ensures none { IfOk result (λ o. IfNone o (log.new ≡ log.old)) }
     ensures continued { IsContinued log.old log.new }
 {
-    let Proposal { clause, hints } = work.analysis.assumed(alloc, engine, log.steps(), from)?;
+    let Proposal { clause, hints, .. } = work.analysis.assumed(alloc, engine, log.steps(), from)?;
     if !negates_assumed(engine, clause.as_slice()) {
         return Ok(None);
     }

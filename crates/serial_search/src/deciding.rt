@@ -3,7 +3,7 @@ ghost use Rattle.count_core.specs.declared.hint.Hint.{Hint as Cause};
 ghost use Rattle.propagation.specs.Engines.{AllQuiet, HasRoom, IsConflict, IsSound, OnlyTrailDiffers, values_in};
 ghost use Rattle.propagation.specs.Trails.{IsFree, values_of, with_entry};
 ghost use Rattle.serial_search.specs.Assumptions.{assumed_of};
-ghost use Rattle.serial_search.specs.Sides.{IsLonger};
+ghost use Rattle.serial_search.specs.Sides.{IsLonger, KeepsFront};
 
 use crate::work::Work;
 use count_core::Lit;
@@ -48,4 +48,26 @@ pub(crate) fn turn_to(engine: &mut Engine, mark: Mark, lit: Lit)
 {
     engine.back_to(mark);
     engine.assume(lit);
+}
+
+/// Goes back to the mark, but not before the base.
+pub(crate) fn go_back(engine: &mut Engine, base: Mark, mark: Mark)
+    requires { base.0 ≤ length engine.old.entries }
+    ensures keeps { KeepsFront base.0 engine.old.entries engine.new.entries }
+    ensures kept { OnlyTrailDiffers engine.old engine.new }
+{
+    let end = engine.mark();
+    engine.back_to(between(base, mark, end));
+}
+
+/// The mark where it is from the base to the end, or else the base.
+fn between(base: Mark, mark: Mark, end: Mark) -> Mark
+    requires { base.0 ≤ end.0 }
+    ensures base { base.0 ≤ result.0 }
+    ensures end { result.0 ≤ end.0 }
+{
+    if base.0 <= mark.0 && mark.0 <= end.0 {
+        return mark;
+    }
+    base
 }

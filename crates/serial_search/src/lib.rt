@@ -22,6 +22,7 @@ mod outcome;
 mod picking;
 mod reason;
 mod refuting;
+mod rounds;
 mod session;
 mod side;
 mod solving;

@@ -4,7 +4,7 @@ ghost use Rattle.serial_search.specs.Assumptions.{assumed_of};
 ghost use Rattle.serial_search.specs.Sides.{AreLinked, IsContinued, IsClosedBy};
 
 use crate::closing::close;
-use crate::learning::learn;
+use crate::learning::{Learnt, learn};
 use crate::work::Work;
 use count_core::{Hint, NoMemory};
 use propagation::Engine;
@@ -33,5 +33,20 @@ pub(crate) fn refute(
         return close(alloc, log, engine, work, conflict, conflict);
     };
     let learnt = learn(alloc, log, engine, work, conflict, level)?;
-    close(alloc, log, engine, work, conflict, learnt)
+    close(
+        alloc,
+        log,
+        engine,
+        work,
+        conflict,
+        first_hint(learnt, conflict),
+    )
+}
+
+/// The step that was learnt, or else the conflict.
+fn first_hint(learnt: Option<Learnt>, conflict: Hint) -> Hint {
+    match learnt {
+        Some(learnt) => Hint::Step(learnt.step),
+        None => conflict,
+    }
 }

@@ -9,7 +9,8 @@ ghost use Rattle.serial_search.specs.Sides as spec;
 use crate::answer::Answer;
 use crate::outcome::Outcome;
 use crate::picking::Heuristic;
-use crate::side::{Run, Side, search};
+use crate::rounds::search_by_learning;
+use crate::side::{Side, search};
 use crate::work::Work;
 use count_core::{Lit, NoMemory, Question, Values};
 use propagation::{Engine, Mark};
@@ -17,7 +18,7 @@ use refutations::ProofLog;
 use std::alloc::Global;
 use std::sync::Arc;
 
-/// How many rounds of bounded runs come before the one that is not bounded. In each round each
+/// How many rounds of bounded runs come before the search that is not bounded. In each round each
 /// heuristic has a run.
 const ROUNDS: u32 = 30;
 
@@ -50,11 +51,8 @@ pub(crate) fn search_to_end(
         }
         budget = budget.saturating_mul(2);
     }
-    let last = Run {
-        heuristic: Heuristic::FewestUnset,
-        is_bounded: false,
-    };
-    search_once(alloc, question, log, engine, work, last)
+    ask(engine, question);
+    search(alloc, log, engine, work, Heuristic::FewestUnset, None)
 }
 
 /// Searches by each heuristic for so many conflicts.
@@ -74,19 +72,13 @@ fn search_round(
     ensures continued { spec.IsContinued log.old log.new }
 {
     work.left = budget;
-    let first = Run {
-        heuristic: Heuristic::FewestUnset,
-        is_bounded: true,
-    };
+    let first = Heuristic::FewestUnset;
     let side = search_once(alloc, question, log, engine, work, first)?;
     if !is_stopped(side) {
         return Ok(side);
     }
     work.left = budget;
-    let second = Run {
-        heuristic: Heuristic::FirstUnset,
-        is_bounded: true,
-    };
+    let second = Heuristic::FirstUnset;
     search_once(alloc, question, log, engine, work, second)
 }
 
@@ -100,30 +92,39 @@ fn is_stopped(side: Side) -> bool
     }
 }
 
-/// Searches from the question alone.
+/// Searches from the question alone, until the conflicts are used up.
 fn search_once(
     alloc: Global,
     question: &Question,
     log: &mut ProofLog,
     engine: &mut Engine,
     work: &mut Work,
-    run: Run,
+    heuristic: Heuristic,
 ) -> Result<Side, NoMemory>
     requires linked { spec.AreLinked log.old engine.old }
     requires within { are_within engine.old.problem.atoms question.now ≡ true }
     ensures side { IfOk result (λ s. spec.IsSide log.new engine.new question.now s) }
-    ensures ended { run.is_bounded ≡ false → IfOk result (λ s. s ≢ Side.Stopped) }
     ensures asked { spec.AreAsked question.now engine.new.entries }
     ensures linked { spec.AreLinked log.new engine.new }
     ensures continued { spec.IsContinued log.old log.new }
 {
+    ask(engine, question);
+    search_by_learning(alloc, log, engine, work, heuristic)
+}
+
+/// Assumes the question alone, whose atoms are atoms of the problem.
+fn ask(engine: &mut Engine, question: &Question)
+    requires room { HasRoom engine.old }
+    requires within { are_within engine.old.problem.atoms question.now ≡ true }
+    ensures assumed { assumed_of engine.new.entries ≡ question.now }
+    ensures kept { OnlyTrailDiffers engine.old engine.new }
+{
     engine.back_to(Mark(0));
-    ask(engine, question.lits());
-    search(alloc, log, engine, work, run, None)
+    assume_all(engine, question.lits());
 }
 
 /// Assumes the literals, which are over different atoms of the problem. Nothing is set before.
-fn ask(engine: &mut Engine, lits: &[Lit])
+fn assume_all(engine: &mut Engine, lits: &[Lit])
     requires nothing { engine.old.entries ≡ [] }
     requires room { HasRoom engine.old }
     requires within { are_within engine.old.problem.atoms lits.now ≡ true }

@@ -1,4 +1,4 @@
-ghost use Rattle.std.specs.Prelude.{◌≡◌, true, IfOk};
+ghost use Rattle.std.specs.Prelude.{◌≡◌, [], true, IfOk};
 ghost use Rattle.std.specs.Arc.{arc_value};
 ghost use Rattle.count_core.specs.Problems.{are_within};
 
@@ -118,6 +118,13 @@ fn question_of(alloc: Global, atoms: u32, signs: &[Sign]) -> Result<Question, Fa
     Ok(Question::new(Lits::new(lits)))
 }
 
+/// The question without literals.
+fn nothing(alloc: Global) -> Question
+    ensures { result ≡ [] }
+{
+    Question::new(Lits::new(Vec::new(alloc)))
+}
+
 /// Asks the question, and reports the answer.
 fn ask(alloc: Global, session: &mut Session, question: &Question) -> Result<Report, Fail>
     requires { are_within session.old.problem.atoms question.now ≡ true }
@@ -170,36 +177,35 @@ fn reports_in_turn(alloc: Global) -> Result<(Report, Report, Report), Fail> {
     Ok((first, second, third))
 }
 
-#[test]
-fn clash_is_impossible_with_its_last_rules_alone(rt: HostRuntime) -> Result<(), Fail> {
-    let alloc = rt.alloc();
-    let (possible, steps, opened, counts) = first_report(
-        alloc,
-        raised(alloc, &CLASH, 0, 8)?,
-        8,
-        &[],
-    )?;
-    println!(&rt; "{possible} {steps} {opened} {counts:?}")?;
-    let (possible, steps, opened, counts) = first_report(
-        alloc,
-        raised(alloc, &CLASH[..8], 0, 8)?,
-        8,
-        &[],
-    )?;
-    println!(&rt; "{possible} {steps} {opened} {counts:?}")?;
-    Ok(())
+/// Asks the empty question of so many pigeons, each of which is to be in a hole of its own.
+fn pigeon_report(alloc: Global, pigeons: u32) -> Result<Report, Fail> {
+    let holes = pigeons.saturating_sub(1);
+    let problem = pigeonholes(alloc, pigeons, holes)?;
+    let mut session = Session::new(alloc, problem)?;
+    ask(alloc, &mut session, &nothing(alloc))
 }
 
 #[test]
+fn clash_is_impossible_by_its_last_rules(rt: HostRuntime) -> Result<(), Fail> {
+    let alloc = rt.alloc();
+    let all = first_report(alloc, raised(alloc, &CLASH, 0, 8)?, 8, &[])?;
+    let but_two = first_report(alloc, raised(alloc, &CLASH[..8], 0, 8)?, 8, &[])?;
+    assert_eq!(rt; (all.0, all.1), (false, 2));
+    assert_eq!(rt; (but_two.0, but_two.1), (true, 0));
+    Ok(())
+}
+
+/// The first 20 atoms are in no rule. Each value of a later one leads to a conflict by propagation.
+#[test]
 fn sibling_not_opened(rt: HostRuntime) -> Result<(), Fail> {
     let alloc = rt.alloc();
-    let (possible, steps, opened, counts) = first_report(
+    let (possible, _steps, opened, _counts) = first_report(
         alloc,
         raised(alloc, &CLASH, 20, 28)?,
         28,
         &[],
     )?;
-    println!(&rt; "{possible} {steps} {opened} {counts:?}")?;
+    assert!(rt; !possible && opened <= 1);
     Ok(())
 }
 
@@ -207,28 +213,28 @@ fn sibling_not_opened(rt: HostRuntime) -> Result<(), Fail> {
 fn questions_in_turn(rt: HostRuntime) -> Result<(), Fail> {
     let alloc = rt.alloc();
     let (first, second, third) = reports_in_turn(alloc)?;
-    println!(&rt; "{} {} {}", first.1, second.1, third.1)?;
+    assert_eq!(rt; (first.0, second.0, third.0), (false, true, false));
+    assert_eq!(rt; (first.1, third.1), (1, 1));
     Ok(())
 }
 
 #[test]
 fn a_lemma_is_learnt(rt: HostRuntime) -> Result<(), Fail> {
     let alloc = rt.alloc();
-    let (possible, steps, opened, counts) = report_with_lemma(alloc)?;
-    println!(&rt; "{possible} {steps} {opened} {counts:?}")?;
+    let (possible, _steps, _opened, counts) = report_with_lemma(alloc)?;
+    assert!(rt; !possible && counts.decisions == 0 && counts.conflicts == 1);
     Ok(())
 }
 
+/// For k pigeons a refutation has (k - 3) * 2^(k - 2) + 2 steps, one a conflict. The analysis is
+/// accepted each time.
 #[test]
 fn pigeons(rt: HostRuntime) -> Result<(), Fail> {
     let alloc = rt.alloc();
-    for holes in 5..10 {
-        let pigeons = holes + 1;
-        let problem = pigeonholes(alloc, pigeons, holes)?;
-        let mut session = Session::new(alloc, problem)?;
-        let question = question_of(alloc, pigeons * holes, &[])?;
-        let (possible, steps, opened, counts) = ask(alloc, &mut session, &question)?;
-        println!(&rt; "{possible} {steps} {opened} {counts:?}")?;
+    for (pigeons, steps) in [(6, 50), (10, 1794)] {
+        let (possible, number, _opened, counts) = pigeon_report(alloc, pigeons)?;
+        assert_eq!(rt; (possible, number), (false, steps));
+        assert_eq!(rt; (counts.conflicts, counts.fallbacks), (steps as u64, 0));
     }
     Ok(())
 }

@@ -1,6 +1,7 @@
 use crate::analysis::Analysis;
 use crate::counts::Counts;
 use count_core::NoMemory;
+use propagation::Mark;
 use std::alloc::Global;
 
 /// What a search needs beside engine and log. Nothing that it holds changes an answer.
@@ -10,8 +11,10 @@ pub(crate) struct Work {
     pub(crate) counts: Counts,
     /// How many splits of the present question had their second side opened.
     pub(crate) opened: u64,
-    /// How many conflicts the present run may still have, where it is bounded.
+    /// How many conflicts the present run may still have.
     pub(crate) left: u64,
+    /// The marks before the decisions of the present run, in their order.
+    levels: Vec<Mark>,
 }
 
 impl Work {
@@ -28,6 +31,7 @@ impl Work {
             },
             opened: 0,
             left: 0,
+            levels: Vec::new(alloc),
         })
     }
 
@@ -60,5 +64,36 @@ impl Work {
         }
         self.left -= 1;
         false
+    }
+
+    /// No decision is made yet.
+    pub(crate) fn clear_levels(&mut self) {
+        self.levels.clear();
+    }
+
+    /// Notes the mark before a decision.
+    pub(crate) fn note_level(&mut self, mark: Mark) -> Result<(), NoMemory> {
+        self.levels.push(mark)?;
+        Ok(())
+    }
+
+    /// The place of the last decision on the trail.
+    pub(crate) fn last_level(&self) -> Option<usize> {
+        let mark = self.levels.last()?;
+        Some(mark.0 as usize)
+    }
+
+    /// The mark of the first decision behind place `back` of the trail. It and the later ones are
+    /// forgotten.
+    pub(crate) fn leave_levels(&mut self, back: usize) -> Mark {
+        let mut mark = Mark(0);
+        for _level in 0..self.levels.len() {
+            match self.levels.last().copied() {
+                Some(last) if last.0 as usize >= back => mark = last,
+                _ => return mark,
+            }
+            self.levels.pop();
+        }
+        mark
     }
 }

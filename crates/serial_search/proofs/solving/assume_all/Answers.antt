@@ -5,7 +5,7 @@ use Rattle.serial_search.specs.Assumptions.{assumed_of}
 use Rattle.serial_search.proofs.Trails.{free_unset}
 use Rattle.serial_search.proofs.Links.{differs_same, differs_on}
 use Rattle.serial_search.proofs.Answers.{all_free, first_free, turn_free, turn_distinct, turn_assumed}
-use Rattle.serial_search.proofs.solving.ask.Goals as goal
+use Rattle.serial_search.proofs.solving.assume_all.Goals as goal
 
 abbrev zero_lit : Lit
 zero_lit = record { atom = record { 0 = 0 }; positive = false }

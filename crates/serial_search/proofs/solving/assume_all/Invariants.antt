@@ -4,7 +4,7 @@ use Rattle.count_core.specs.Problems.{repeats}
 use Rattle.propagation.specs.Trails.{IsFree}
 use Rattle.propagation.specs.Engines.{OnlyTrailDiffers, values_in}
 use Rattle.serial_search.specs.Assumptions.{assumed_of}
-use Rattle.serial_search.proofs.solving.ask.Given as goal
+use Rattle.serial_search.proofs.solving.assume_all.Given as goal
 
 -- those left are over different atoms, each of which is unset
 abbrev pub invariant-loop-lit : goal.invariant-loop-lit
