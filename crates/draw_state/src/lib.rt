@@ -13,7 +13,7 @@ mod replies;
 mod state;
 
 pub use commands::{Action, Command, Word};
-pub use judging::{judge_command, next_line};
+pub use judging::{MOST_COMMANDS, judge_command, next_line};
 pub use laws::{
     law_offered_is_accepted, law_one_outcome, law_one_run, law_replies_name_teams, law_states_stay,
     law_steps_below_limit,

@@ -2,8 +2,8 @@
 -- one word that is a text
 pub mod Words
 -- ---- the answer text
--- an accepted ball makes a step
-pub mod AcceptedBalls
+-- one command, by a turn that is given what it wants
+pub mod TurnSteps
 -- one more line is answered
 pub mod OneMoreLine
 -- the answer text is a function of the input

@@ -1,10 +1,8 @@
 -- The opening and the reply to one line, as texts.
-use Rattle.std.specs.Prelude.{◌≡◌, ◌++◌, ℕ, List}
-use Rattle.draw_tables.specs.declared.moves.Choice.{Choice}
+use Rattle.std.specs.Prelude.{◌≡◌, ℕ, List}
 use Rattle.draw_state.specs.declared.commands.Command.{Command}
 use Rattle.draw_state.specs.declared.replies.NextLine.{NextLine}
 use Rattle.draw_state.specs.declared.replies.Reply.{Reply}
-use Rattle.draw_state.specs.Commands.{Adds}
 use Rattle.draw_state.specs.Runs.{IsNextLine, IsStep}
 use Rattle.draw_lines.specs.Words.{command_of}
 use Rattle.draw_lines.specs.Texts.{opening_text, reply_text}
@@ -29,9 +27,3 @@ IsReplyTo old new answered line text =
 abbrev pub IsRefusal : Reply → Type 0
 IsRefusal (Reply.Refused refusal) = Unit {0}
 IsRefusal (Reply.Taken added next) = ⊥
-
--- the reply to an accepted ball of the choice, which leads from the one turn to the other
-abbrev pub TakesBall : Turn → Turn → Choice → Reply → Type 0
-TakesBall old new c (Reply.Refused refusal) = ⊥
-TakesBall old new c (Reply.Taken added next) =
-    Adds old.file old.moves c added × (new.moves ≡ old.moves ++ added) × IsNextLine old.file new.moves next

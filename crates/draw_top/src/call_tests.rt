@@ -1,18 +1,24 @@
 //! Calls that `run_draw` makes, each by itself on the round of 16 of 2021/22: in its file the winners
 //! stand at the places 0 to 7 and the runners-up at 8 to 15.
 
+ghost use Rattle.std.specs.Prelude.{◌≡◌, IfOk};
+
 use crate::tests::{file_of, fine, input, listed, start, turn_of, words};
-use crate::turn::{Turn, offer_of};
+use crate::offers::offer_at;
+use crate::turn::Turn;
 use crate::{Status, follow};
 use draw_lines::opening_text;
 use draw_ports::{MemorySink, MemorySource};
-use draw_state::{Action, Command, Refusal, State, Word, judge_command, next_line};
+use draw_state::{Action, Command, NextLine, Refusal, State, Word, judge_command, next_line};
 use draw_tables::{
     Choice, Move, Phase, is_candidate, may_meet, move_in, move_of, phase_of, teams_of_pot,
 };
+use offer_engine::{Encoded, Offer};
 use rule_sets::DrawFile;
 use samples::{ROUND_OF_16, TWO_TEAMS};
+use serial_search::Session;
 use std::alloc::{AllocError, Global};
+use std::sync::Arc;
 use std::test::Fail;
 use team_files::{Code, TeamId};
 
@@ -97,6 +103,15 @@ fn candidates_have_moves(rt: HostRuntime) -> Result<(), Fail> {
     Ok(())
 }
 
+/// The offer of a state, from a session of its own.
+fn offer_of(alloc: Global, state: &State) -> Result<Offer, AllocError>
+    ensures { IfOk result (λ o. o.state ≡ state.now) }
+{
+    let enc = Encoded::new(alloc, state.file().clone_in(alloc)?)?;
+    let mut session = Session::new(alloc, Arc::try_clone(enc.problem())?)?;
+    offer_at(alloc, &enc, &mut session, state)
+}
+
 /// What is said of a ball with the code in a state, after so many commands.
 fn said_of(
     alloc: Global,
@@ -104,12 +119,15 @@ fn said_of(
     answered: u64,
     code: &str,
 ) -> Result<Result<Action, Refusal>, AllocError> {
-    let offered = offer_of(alloc, state)?;
+    let offer = offer_of(alloc, state)?;
+    let NextLine::Choices { phase: _, choices } = offer.next(alloc)? else {
+        return Err(AllocError);
+    };
     let command = match Code::read(code.as_bytes()) {
         Some(code) => Command::Ball(Word::Team(code)),
         None => Command::Bad,
     };
-    Ok(judge_command(state, &offered, answered, command))
+    Ok(judge_command(state, choices.as_slice(), answered, command))
 }
 
 /// What is said of a ball with the code where Villarreal's ball was drawn, after so many commands.

@@ -13,6 +13,7 @@ mod endings;
 mod faults;
 mod following;
 mod laws;
+mod offers;
 mod run;
 #[cfg(test)]
 mod state_tests;

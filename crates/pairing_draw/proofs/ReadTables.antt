@@ -22,7 +22,7 @@ use Rattle.draw_tables.proofs.PotOrder.{pot_once, pot_team}
 use Rattle.pairing_draw.proofs.AtomNumbers.{OneBelow, below_one, below_each}
 use Rattle.pairing_draw.proofs.PlacedLists.{each_split, place_of_each, joined_each, place_found}
 use Rattle.pairing_draw.proofs.StateMoves.{IsKnown, state_known}
-use Rattle.pairing_draw.proofs.WinnerRanks.{pair_table}
+use Rattle.pairing_draw.proofs.PairTables.{pair_table}
 
 -- ---- what a satisfied rule says
 

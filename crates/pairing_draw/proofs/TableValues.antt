@@ -24,7 +24,7 @@ use Rattle.pairing_draw.specs.Correspondence.{TablesSatisfy, ValuesTellPairs}
 use Rattle.draw_tables.proofs.PotOrder.{pot_once, pot_team}
 use Rattle.pairing_draw.proofs.AtomNumbers.{OneBelow, one_below, each_below}
 use Rattle.pairing_draw.proofs.PlacedLists.{each_append, each_of_places, each_joined, get_joined, place_found}
-use Rattle.pairing_draw.proofs.WinnerRanks.{pair_table}
+use Rattle.pairing_draw.proofs.PairTables.{pair_table}
 
 -- a rule that one of the literals is true
 pub one_satisfies : (values : List Bool) (lit : ℕ → Lit) (n : ℕ) → OneBelow (makes_true values) lit n → SatisfiesRule values (exactly_one (map lit (range_with_len 0 n)))

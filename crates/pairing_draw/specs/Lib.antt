@@ -1,4 +1,3 @@
-pub mod Search
 pub mod Laws
 pub mod Encoding
 pub mod Correspondence

@@ -1,13 +1,19 @@
-use Rattle.std.proofs.Common.{refl}
-use Rattle.draw_state.proofs.Outcomes.{accepted_is_possible}
+use Rattle.std.proofs.Common.{arith}
+use Rattle.draw_top.proofs.TurnSteps.{is_state, steps, unchanged}
 use Rattle.draw_top.proofs.turn.Turn.answer.Goals as goal
 
-pub returns-in-Err-clause-step : goal.returns-in-Err-clause-step
-returns-in-Err-clause-step c = (rw (← c.self.view_is) c.in-Err.ensures.refused, refl)
+pub returns-clause-step : goal.returns-clause-step
+returns-clause-step c =
+    steps c.args.self.now c.self.inside.offer c.self.view_is c.in_ok-before.before c.in_ok-reply.offer c.args.answered c.args.command c.in_ok-reply.reply
+    c.in_ok-before.ensures (omega (arith, c.if-answered-ge-MOST_COMMANDS.false)) c.in_ok-reply.ensures.step
 
-pub take-requires : goal.take-requires
-take-requires c =
-    let before = c.self.inside.state in
-    let accepted = rw c.ball_of.ensures at c.in-Ok.ensures.accepted in
-    rw (← c.self.view_is)
-    (accepted_is_possible before.file before.moves c.args.answered c.args.command c.self.inside.offered.items c.self.invariant c.ball_of.result accepted)
+pub returns-clause-of_file : goal.returns-clause-of_file
+returns-clause-of_file c =
+    let old = c.args.self.now in
+    let state = is_state old c.self.inside.offer c.self.view_is c.state.result.now c.state.ensures c.file.ensures.state in
+    c.law_replies_name_teams.ensures.reply old.file old.moves c.args.answered c.args.command c.in_ok-reply.offer.state.moves c.in_ok-reply.reply state (returns-clause-step c)
+
+pub returns-clause-refused : goal.returns-clause-refused
+returns-clause-refused c =
+    unchanged c.args.self.now c.self.inside.offer c.self.view_is c.in_ok-before.before c.in_ok-reply.offer c.args.answered c.args.command c.in_ok-reply.reply
+    c.in_ok-before.ensures c.in_ok-reply.ensures.same_file (returns-clause-step c)
