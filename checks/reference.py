@@ -1,7 +1,8 @@
 """The answers of `draw follow` and `drawcheck judge`, found without the programs' methods.
 
 A reader of heads, lines and commands of its own, and the offer by trying every one-to-one map from
-runners-up to winners. It shares nothing with the proved program but the rules in docs/DEFINITIONS.md.
+runners-up to winners. Since it tries every table, it covers pairings of up to eight pairs. It shares
+nothing with the proved program but the rules in docs/DEFINITIONS.md.
 """
 
 import itertools

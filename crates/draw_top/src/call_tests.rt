@@ -3,8 +3,8 @@
 
 ghost use Rattle.std.specs.Prelude.{◌≡◌, IfOk};
 
-use crate::tests::{file_of, fine, input, listed, start, turn_of, words};
 use crate::offers::offer_at;
+use crate::tests::{file_of, fine, input, listed, start, turn_of, words};
 use crate::turn::Turn;
 use crate::{Status, follow};
 use draw_lines::opening_text;

@@ -4,9 +4,7 @@ ghost use Rattle.draw_state.specs.Runs.{IsNextLine};
 ghost use Rattle.draw_state.specs.Replies.{IsFileNextLine, IsFileReply};
 
 use crate::offers::{offer_at, reply_below_limit};
-use draw_state::{
-    Command, MOST_COMMANDS, NextLine, Refusal, Reply, State, law_replies_name_teams,
-};
+use draw_state::{Command, MOST_COMMANDS, NextLine, Refusal, Reply, State, law_replies_name_teams};
 use offer_engine::{Encoded, Offer};
 use rule_sets::DrawFile;
 use serial_search::Session;
@@ -87,8 +85,13 @@ impl Turn {
             return Ok(Reply::Refused(Refusal::Limit));
         }
         let before = self.offer.clone_in(alloc)?;
-        let (reply, offer) =
-            reply_below_limit(alloc, &self.enc, &mut self.session, before, command)?;
+        let (reply, offer) = reply_below_limit(
+            alloc,
+            &self.enc,
+            &mut self.session,
+            before,
+            command,
+        )?;
         self.offer = offer;
         Ok(reply)
     }
