@@ -58,6 +58,13 @@ fn solve_each(
     Ok(answers)
 }
 
+/// A session of the file's problem.
+fn session_of(alloc: Global, enc: &Encoded) -> Result<Session, NoMemory>
+    ensures { IfOk result (λ s. s.problem ≡ enc.now.problem) }
+{
+    Session::new(alloc, Arc::try_clone(enc.problem())?)
+}
+
 /// The answers to at most so many of the questions of a state.
 fn answers_to(
     alloc: Global,
@@ -68,8 +75,9 @@ fn answers_to(
     requires { state.now.file ≡ enc.now.file }
     ensures { IfOk result (λ v. AreOfProblem enc.now.file v.items) }
 {
+    enc.problem();
     let asked = questions(alloc, enc, state)?;
-    let mut session = Session::new(alloc, Arc::try_clone(enc.problem())?)?;
+    let mut session = session_of(alloc, enc)?;
     let answers = solve_each(alloc, &mut session, &asked, most)?;
     Ok(answers)
 }
@@ -201,13 +209,13 @@ fn counted(alloc: Global, enc: &Encoded, state: &State) -> Result<(usize, usize)
     requires { state.now.file ≡ enc.now.file }
 {
     let offer = offer_at(alloc, enc, state)?;
-    let mut offered = 0;
+    let mut offered = 0usize;
     for (_choice, standing) in offer.standings() {
         if let Standing::Offered(_) = standing {
-            offered += 1;
+            offered = offered.saturating_add(1);
         }
     }
-    Ok((offered, offer.standings().len() - offered))
+    Ok((offered, offer.standings().len().saturating_sub(offered)))
 }
 
 /// In the round of 16, what the answers after a ball are for the opening, what they are with one
