@@ -14,6 +14,9 @@ pub(crate) enum Heuristic {
     FewestUnset,
     /// The first unset atom, made true.
     FirstUnset,
+    /// As `FewestUnset` among the rules from this place on, and among those before it only where
+    /// none of these is open.
+    FewestUnsetFrom { place: usize },
 }
 
 /// A literal whose atom is unset, or none where each atom is set.
@@ -67,7 +70,32 @@ fn advised(values: &[Option<bool>], rules: &[CountRule], heuristic: Heuristic) -
             first_unset(values)
         }
         Heuristic::FirstUnset => None,
+        Heuristic::FewestUnsetFrom { place } => {
+            let (earlier, later) = rules.split_at(place.min(rules.len()));
+            fewest_unset(values, later).or_else(|| fewest_unset(values, earlier))
+        }
     }
+}
+
+/// The place where the rules of another side begin: that of the next rule that asks for true literals
+/// and shares an atom with the first that does. Where there is none, the number of rules.
+pub(crate) fn other_side_of(rules: &[CountRule]) -> usize {
+    let Some(first) = rules.iter().position(|rule| rule.lo > 0) else {
+        return rules.len();
+    };
+    for place in first + 1..rules.len() {
+        if rules[place].lo > 0 && share_an_atom(&rules[first], &rules[place]) {
+            return place;
+        }
+    }
+    rules.len()
+}
+
+/// Whether an atom is in both rules.
+fn share_an_atom(one: &CountRule, other: &CountRule) -> bool {
+    let lits = other.lits.as_slice();
+    let is_shared = |lit: &Lit| lits.iter().any(|twin| twin.atom == lit.atom);
+    one.lits.as_slice().iter().any(is_shared)
 }
 
 /// The first unset literal of the open rule that has the fewest.

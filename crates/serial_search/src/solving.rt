@@ -8,7 +8,7 @@ ghost use Rattle.serial_search.specs.Sides as spec;
 
 use crate::answer::Answer;
 use crate::outcome::Outcome;
-use crate::picking::Heuristic;
+use crate::picking::{Heuristic, other_side_of};
 use crate::rounds::search_by_learning;
 use crate::side::{Side, search};
 use crate::work::Work;
@@ -79,7 +79,14 @@ fn search_round(
     }
     work.left = budget;
     let second = Heuristic::FirstUnset;
-    search_once(alloc, question, log, engine, work, second)
+    let side = search_once(alloc, question, log, engine, work, second)?;
+    if !is_stopped(side) {
+        return Ok(side);
+    }
+    work.left = budget;
+    let place = other_side_of(engine.problem().rules());
+    let third = Heuristic::FewestUnsetFrom { place };
+    search_once(alloc, question, log, engine, work, third)
 }
 
 fn is_stopped(side: Side) -> bool
