@@ -14,6 +14,7 @@ from places import NotJson, Reader, head_of, line_and_column, read_text
 LONGEST = 4_194_304
 CODE = re.compile(r"[A-Z0-9]{3}\Z")
 TAG = re.compile(r"[A-Z0-9]{1,16}\Z")
+TAG_FORM = "1 to 16 characters A to Z or 0 to 9"
 LETTER = re.compile(r"[A-Z]\Z")
 KINDS = ("pairing", "group")
 KNOWN = (*KINDS, "league")
@@ -79,7 +80,8 @@ def missing(file):
         for at, item in file.objects(name):
             for member in (member for member in needed if member not in item.value):
                 unknown = [other for _, other in item.names if other not in needed + others]
-                yield f"4 FieldMissing {member}", item.at, f'{file.who(name, at, item)} has no "{member}"{like(member, unknown)}'
+                why = f'{file.who(name, at, item)} has no "{member}"{like(member, unknown)}'
+                yield f"4 FieldMissing {member}", item.at, why
 
 
 # ---- a member of another form
@@ -106,7 +108,8 @@ def wrong(file):
 def told(file, name, at, item, member, wanted):
     """A member of an object that is not as it has to be."""
     node = item.get(member)
-    return f"5 FieldWrong {member}", node.at, f'{file.who(name, at, item)} has {node.words()} as "{member}"; it has to be {wanted}'
+    why = f'{file.who(name, at, item)} has {node.words()} as "{member}"; it has to be {wanted}'
+    return f"5 FieldWrong {member}", node.at, why
 
 
 def number(file, name, at, item, member, least, most):
@@ -140,14 +143,7 @@ def wrong_team(file, at, team):
         yield from text(file, "teams", at, team, "name", None, "a text")
     pots = file.pots if type(file.pots) is int and file.pots > 0 else 2**64 - 1
     yield from number(file, "teams", at, team, "pot", 1, pots)
-    tags = team.get("tags")
-    if not tags.is_list() or len(tags.value) not in (1, 2):
-        yield told(file, "teams", at, team, "tags", "a list of one tag or two")
-    elif not all(is_tag(tag) for tag in tags.value):
-        bad = next(tag for tag in tags.value if not is_tag(tag))
-        yield "5 FieldWrong tags", bad.at, f"{file.who('teams', at, team)} has {bad.words()} for a tag, which is 1 to 16 characters A to Z or 0 to 9"
-    elif len({tag.value for tag in tags.value}) < len(tags.value):
-        yield "5 FieldWrong tags", tags.at, f"{file.who('teams', at, team)} has one tag twice"
+    yield from wrong_tags(file, at, team)
     if file.kind == "pairing":
         yield from text(file, "teams", at, team, "group", LETTER, "one letter A to Z")
 
@@ -156,12 +152,23 @@ def is_tag(node):
     return node.is_text() and bool(TAG.match(node.value))
 
 
+def wrong_tags(file, at, team):
+    tags, who = team.get("tags"), file.who("teams", at, team)
+    if not tags.is_list() or len(tags.value) not in (1, 2):
+        yield told(file, "teams", at, team, "tags", "a list of one tag or two")
+    elif not all(is_tag(tag) for tag in tags.value):
+        bad = next(tag for tag in tags.value if not is_tag(tag))
+        yield "5 FieldWrong tags", bad.at, f"{who} has {bad.words()} for a tag, which is {TAG_FORM}"
+    elif len({tag.value for tag in tags.value}) < len(tags.value):
+        yield "5 FieldWrong tags", tags.at, f"{who} has one tag twice"
+
+
 def wrong_limits(file):
     seen = set()
     for at, limit in file.objects("limits"):
         tag, lo, hi = map(limit.get, ("tag", "lo", "hi"))
         if not is_tag(tag):
-            yield told(file, "limits", at, limit, "tag", "1 to 16 characters A to Z or 0 to 9")
+            yield told(file, "limits", at, limit, "tag", TAG_FORM)
         elif tag.value in seen:
             yield "5 FieldWrong tag", tag.at, f"{file.who('limits', at, limit)} names a tag that a limit before it names"
         yield from number(file, "limits", at, limit, "lo", 0, 64)
@@ -205,7 +212,8 @@ def same_codes(file):
     for at, team in file.objects("teams"):
         code = team.get("code")
         if code.value in codes[:at]:
-            yield f"8 SameCode {code.value}", code.at, f"{file.who('teams', at, team)}: teams {codes.index(code.value)} has this code already"
+            why = f"{file.who('teams', at, team)}: teams {codes.index(code.value)} has this code already"
+            yield f"8 SameCode {code.value}", code.at, why
 
 
 def pot_sizes(file):
@@ -226,7 +234,8 @@ def unknown_tags(file):
     named = [limit.get("tag").value for _, limit in file.objects("limits")]
     for at, team in file.objects("teams"):
         for tag in (tag for tag in team.get("tags").value if tag.value not in named):
-            yield f"10 UnknownTag {at}", tag.at, f"{file.who('teams', at, team)}: no limit names {tag.value}{like(tag.value, named)}"
+            why = f"{file.who('teams', at, team)}: no limit names {tag.value}{like(tag.value, named)}"
+            yield f"10 UnknownTag {at}", tag.at, why
 
 
 def bad_pairs(file):
@@ -283,7 +292,8 @@ def kind_fault(head, built):
         return None
     if kind.value in KNOWN:
         return "14 KindNotBuilt", kind.at, f"today's programs do not draw this kind; they draw: {', '.join(built)}"
-    return "3 KindUnknown", kind.at, f'there is no kind "{kind.value}"' + (like(kind.value, KINDS) or f"; the kinds are {', '.join(KINDS)}")
+    instead = like(kind.value, KINDS) or f"; the kinds are {', '.join(KINDS)}"
+    return "3 KindUnknown", kind.at, f'there is no kind "{kind.value}"{instead}'
 
 
 def first_stage(file):

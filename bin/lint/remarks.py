@@ -132,24 +132,33 @@ def letters(file):
     for pot, teams in by_pot.items():
         for letter, team in teams.items():
             if letter not in by_pot[3 - pot]:
-                yield team.get("group").at, f"{team.get('code').value} is of pot {pot} and group {letter}, of which pot {3 - pot} has no team"
+                code = team.get("code").value
+                yield team.get("group").at, f"{code} is of pot {pot} and group {letter}, of which pot {3 - pot} has no team"
 
 
 def limits(file):
     """Limits that nobody can reach, or nobody can keep."""
     groups = file.head.get("groups").value
     for _, limit in file.objects("limits"):
-        tag, lo, hi = (limit.get(name).value for name in ("tag", "lo", "hi"))
-        pots = [team.get("pot").value for _, team in file.objects("teams") if tag in [t.value for t in team.get("tags").value]]
-        reach = min(len(set(pots)), len(pots))
+        tag, lo, hi = map(limit.get, ("tag", "lo", "hi"))
+        pots = pots_with(file, tag.value)
+        reach = len(set(pots))
         if not pots:
-            yield limit.get("tag").at, f"no team has the tag {tag}" + (", so no table is legal" if lo else ", so its limit says nothing")
-        elif lo > reach or lo * groups > len(pots):
-            yield limit.get("lo").at, f"{groups} groups with at least {lo} of {tag} each cannot be: {counted(pots)}, so no table is legal"
-        elif hi * groups < len(pots):
-            yield limit.get("hi").at, f"{groups} groups with at most {hi} of {tag} each cannot be: {counted(pots)}, so no table is legal"
-        if pots and hi > reach:
-            yield limit.get("hi").at, f"no group can reach {hi} of {tag}: {counted(pots)}, so this upper limit says nothing"
+            yield tag.at, f"no team has the tag {tag.value}, so {'no table is legal' if lo.value else 'its limit says nothing'}"
+            continue
+        cannot = f"of {tag.value} each cannot be: {counted(pots)}, so no table is legal"
+        if lo.value > reach or lo.value * groups > len(pots):
+            yield lo.at, f"{groups} groups with at least {lo.value} {cannot}"
+        elif hi.value * groups < len(pots):
+            yield hi.at, f"{groups} groups with at most {hi.value} {cannot}"
+        if hi.value > reach:
+            yield hi.at, f"no group can reach {hi.value} of {tag.value}: {counted(pots)}, so this upper limit says nothing"
+
+
+def pots_with(file, tag):
+    """The pots of the teams that hold a tag, each as often as it has such teams."""
+    teams = [team for _, team in file.objects("teams")]
+    return [team.get("pot").value for team in teams if tag in [held.value for held in team.get("tags").value]]
 
 
 def counted(pots):
@@ -165,7 +174,8 @@ def places(file):
         first, second = one.get("code").value, other.get("code").value
         if one.get("group").value != other.get("group").value:
             continue
+        both = f"{first} and {second} have places in one group and are"
         if pot_of[first] == pot_of[second]:
-            yield other.at, f"{first} and {second} are both of pot {pot_of[first]} and have places in one group, so no table is legal"
+            yield other.at, f"{both} both of pot {pot_of[first]}, so no table is legal"
         if frozenset((first, second)) in forbidden:
-            yield other.at, f"{first} and {second} have places in one group and are a forbidden pair, so no table is legal"
+            yield other.at, f"{both} a forbidden pair, so no table is legal"
