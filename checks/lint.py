@@ -65,6 +65,7 @@ NO_JSON = (
     ('{"kind": 1}\n^ball VIL\n', "the line -- before them is forgotten"),
     ('{"kind": 1}\n^-- \nball VIL\n', "has to be exactly --"),
     ('{"kind": 1}\n^---\nball VIL\n', "has to be exactly --"),
+    ('{"kind": 1}^--\nball VIL\n', "on a line of its own"),
     ('{"kind": 1}\n^–\nball VIL\n', "has to be exactly --"),
     ('{"teams": [1\n^ball VIL\n', "is a bracket above not closed"),
     ('{"teams": [1,\n^ball VIL\n', "is a bracket above not closed"),
@@ -242,7 +243,7 @@ class Test:
 
     def rows(self, rows, is_refused):
         for head, wanted in rows:
-            data = head if isinstance(head, bytes) else json.dumps(head).encode()
+            data = (head if isinstance(head, bytes) else json.dumps(head).encode()) + b"\n"
             refusal, notes = lint(data, KINDS)
             places = [(1, data.decode().rfind(start) + 1) for start, _ in wanted]
             right = bool(refusal) == is_refused and [note[:2] for note in notes] == places
@@ -260,6 +261,9 @@ class Test:
             wanted = noticed.get(path.name, [])
             right = len(notes) == len(wanted) and all(note[2].startswith(words) for note, words in zip(notes, wanted))
             self.note(not refusal and right, f"{path.name}: {refusal} {notes}")
+        for data, column in ((text_of(CALM), len(text_of(CALM)) + 1), (text_of(CALM) + b"\n--", None), (text_of(CALM) + b"\r\n", None)):
+            _, notes = lint(data, KINDS)
+            self.note([note[:2] for note in notes] == ([(1, column)] if column else []), f"{data!r}: {notes}")
         for _, block in [found for found in BLOCK.findall(GUIDE.read_text()) if found[0] == "json"][:2]:
             self.note(lint(block.encode(), KINDS) == (None, []), f"something is noticed in {block}")
 
@@ -267,8 +271,8 @@ class Test:
         """The words, the statuses and the texts of the command itself."""
         with tempfile.TemporaryDirectory() as folder:
             for name, head, status, text in (
-                ("calm", text_of(CALM), 0, "{}: nothing was noticed; whether it says what you mean, only you can tell\n"),
-                ("remark", text_of(changed(CALM, Pairs=[])), 0, '{}:1:236: the member "Pairs" is ignored; do you mean "pairs"?\n'),
+                ("calm", text_of(CALM) + b"\n", 0, "{}: nothing was noticed; whether it says what you mean, only you can tell\n"),
+                ("remark", text_of(changed(CALM, Pairs=[])) + b"\n", 0, '{}:1:236: the member "Pairs" is ignored; do you mean "pairs"?\n'),
                 ("later", text_of({"kind": "league"}), 2, "{}: file refused 14 KindNotBuilt\n"),
                 ("long", b" " * 4_194_305, 2, "{}: more than 4194304 bytes are not taken (status 6)\n"),
             ):

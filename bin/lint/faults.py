@@ -329,6 +329,8 @@ def lint(data, built):
         found, noticed = findings(Reader(read_text(head)).whole(), built)
     except NotJson as fault:
         found, noticed = [("1 NotJson", fault.at, fault.why)], []
+    if not found and head == data and not data.endswith(b"\n"):
+        noticed.append((len(text_of_head), "the last line is not ended; put together with balls, the -- would stand on it"))
     notes = [(at, f"{line.partition(' ')[2]}: {why}") for line, at, why in found] + noticed
     refusal = f"file refused {found[0][0]}" if found else None
     return refusal, [(*line_and_column(text_of_head, at), note) for at, note in notes]

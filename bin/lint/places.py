@@ -94,6 +94,8 @@ class Reader:
             return "here the balls begin, and the line -- before them is forgotten"
         if DASHES.match(line):
             return f'this line is "{line}"; the line before the balls has to be exactly --'
+        if self.text.startswith("--", self.at):
+            return "the -- before the balls has to stand on a line of its own; end the line before it"
         return "the JSON value has ended before this; one bracket too many, or a comma in place of it?"
 
     def value(self):
