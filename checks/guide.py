@@ -11,6 +11,7 @@ import re
 import sys
 
 import comparing
+import random_heads
 import reference
 from built import BUILT
 from reference_heads import KINDS, Refused, read_head
@@ -85,9 +86,7 @@ class Test:
             found = [fault_of(head) for head in heads]
             self.note(fault in found, f"{fault} for the table of changes, and not {found}")
         named = {name for name, _, _ in ROW.findall(text)}
-        members = {"kind", "groups", "pots", "teams", "code", "name", "pot", "tags", "group", "limits", "tag", "lo", "hi", "pairs",
-                   "places", "position"}
-        self.note(named == members, f"changes for each member: {members ^ named}")
+        self.note(named == set(random_heads.MEMBERS), f"changes for each member: {named ^ set(random_heads.MEMBERS)}")
 
 
 def main():
@@ -98,7 +97,8 @@ def main():
     test = Test()
     test.answers(text, words.built)
     test.faults(text)
-    test.note(("Today's programs draw pairings" in text) == ("group" not in BUILT), "the notice at the top of the guide is out of date")
+    has_notice = "Today's programs draw pairings" in text
+    test.note(has_notice == ("group" not in BUILT), "the notice at the top of the guide is out of date")
     print(f"{test.count - test.bad} of {test.count} answers and faults of the guide are as it says")
     return 1 if test.bad else 0
 

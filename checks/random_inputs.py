@@ -12,7 +12,8 @@ import random_heads
 import reference
 
 STRAY_WORDS = ("W00", "R00", "R01", "X00", "ABC", "1", "2", "3", "4", "5", "10", "05", "123", "w00", "", "W00 ", "WWWW")
-STRAY_LINES = (b"", b"--", b"undo", b"offers", b"table", b"Ball W00", b"ball", b"ball \x00", b"\xff\xfe", b"x" * 300, b"ball W00\r")
+STRAY_LINES = (b"", b"--", b"undo", b"offers", b"table", b"Ball W00", b"ball", b"ball \x00", b"\xff\xfe", b"x" * 300,
+               b"ball W00\r")
 
 
 def file_of(data):
@@ -70,7 +71,8 @@ def one_input(rng, kind, most):
     if rng.random() < 0.1:
         return text + end
     file = file_of(text)
-    count = 5000 if rng.random() < 0.004 else rng.randint(0, 30 if kind == "pairing" or not file else 2 * len(file.teams) + 8)
+    most_lines = 30 if kind == "pairing" or not file else 2 * len(file.teams) + 8
+    count = 5000 if rng.random() < 0.004 else rng.randint(0, most_lines)
     return text + (end if end.endswith(b"\n") else b"\n") + rng.choice((b"--\n", b"--\r\n")) + lines(rng, file, count)
 
 

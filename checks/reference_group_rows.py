@@ -101,11 +101,13 @@ def world_cup_rows(example, with_balls):
 def small_rows(with_balls):
     """Small files, what their balls are and what they get."""
     yield "no legal table", "follow", with_balls(CLASH, "AAA"), 0, "draw group 4 teams\nimpossible\nrefused excluded"
-    for what, head, balls, wanted in small_draws():
-        yield what, "follow", with_balls(head, *balls.split()), 0, wanted
+    for rows in (draws_of_groups(), draws_of_positions(), draws_of_words()):
+        for what, head, balls, wanted in rows:
+            yield what, "follow", with_balls(head, *balls.split()), 0, wanted
 
 
-def small_draws():
+def draws_of_groups():
+    """Which group a team comes to."""
     tags = "X 0 1, Y 0 1, Z 0 1"
     # AAA holds Y, so CCC may not join it.
     yield (
@@ -126,15 +128,6 @@ def small_draws():
         answer(3, "AAA BBB HST", "placed BBB B", "next team pot 1: AAA HST", "placed AAA C", "next team pot 1: HST",
                "placed HST A", "complete", "refused complete"),
     )
-    # BBB cannot have position 3, which is CCC's.
-    held = group_head(("AAA X", "BBB X", "CCC X", "DDD X"), "X 4 4", places=[place("CCC", "A", 3)])
-    yield (
-        "a fixed place holds its position", held, "AAA BBB 3 1 4 CCC 2 4 3 DDD 2",
-        answer(4, "AAA", "placed AAA A", "next team pot 2: BBB", "placed BBB A", "next position BBB: 2 4", "refused excluded",
-               "refused phase", "stands BBB A4", "next team pot 3: CCC", "placed CCC A", "next position CCC: 3",
-               "refused excluded", "refused excluded", "stands CCC A3", "next team pot 4: DDD", "placed DDD A",
-               "next position DDD: 2", "stands DDD A2", "complete"),
-    )
     forbidden = group_head(("AAA X, BBB X", "CCC X, DDD X"), "X 0 2", pairs=[["CCC", "AAA"], ["AAA", "BBB"]])
     # CCC may not join AAA; that AAA and BBB may not meet says nothing, they are of one pot.
     yield (
@@ -144,10 +137,35 @@ def small_draws():
     )
     # AAA has to leave group A to BBB, since CCC stands there and may not meet AAA.
     later = group_head(("AAA X, BBB X", "CCC X, DDD X"), "X 0 2", pairs=[["CCC", "AAA"]], places=[place("CCC", "A", 2)])
+    yield "a place of a later pot excludes a group", later, "AAA", answer(4, "AAA BBB", "placed AAA B", "next team pot 1: BBB")
+
+
+def draws_of_positions():
+    """Which positions are offered."""
+    # BBB cannot have position 3, which is CCC's.
+    held = group_head(("AAA X", "BBB X", "CCC X", "DDD X"), "X 4 4", places=[place("CCC", "A", 3)])
     yield (
-        "a place of a later pot excludes a group", later, "AAA",
-        answer(4, "AAA BBB", "placed AAA B", "next team pot 1: BBB"),
+        "a fixed place holds its position", held, "AAA BBB 3 1 4 CCC 2 4 3 DDD 2",
+        answer(4, "AAA", "placed AAA A", "next team pot 2: BBB", "placed BBB A", "next position BBB: 2 4", "refused excluded",
+               "refused phase", "stands BBB A4", "next team pot 3: CCC", "placed CCC A", "next position CCC: 3",
+               "refused excluded", "refused excluded", "stands CCC A3", "next team pot 4: DDD", "placed DDD A",
+               "next position DDD: 2", "stands DDD A2", "complete"),
     )
+    # A team of pot 2 may have position 3; what it leaves is for pot 3.
+    order = group_head(("AAA X", "CCC X", "EEE X"), "X 0 3")
+    yield (
+        "positions in any order", order, "AAA CCC 3 EEE 3 2",
+        answer(3, "AAA", "placed AAA A", "next team pot 2: CCC", "placed CCC A", "next position CCC: 2 3", "stands CCC A3",
+               "next team pot 3: EEE", "placed EEE A", "next position EEE: 2", "refused excluded", "stands EEE A2", "complete"),
+    )
+    both = group_head(("AAA X, BBB X", "CCC X, DDD X", "EEE X, FFF X"), "X 0 3",
+                      places=[place("CCC", "A", 2), place("DDD", "A", 3)])
+    # Two teams of pot 2 have places in group A.
+    yield "two fixed places that cannot both be", both, "AAA", "draw group 6 teams\nimpossible\nrefused excluded"
+
+
+def draws_of_words():
+    """Which words are refused, and why."""
     mixed = group_head(("AAA X, BBB X", "CCC X, DDD X"), "X 0 2")
     mixed["teams"] = [mixed["teams"][at] for at in (3, 1, 2, 0)]
     yield (
@@ -156,17 +174,6 @@ def small_draws():
                "placed BBB A", "next team pot 1: AAA", "refused phase", "placed AAA B", "next team pot 2: DDD CCC",
                "placed DDD A", "next position DDD: 2", "refused phase", "stands DDD A2", "next team pot 2: CCC",
                "placed CCC B", "next position CCC: 2", "refused phase", "stands CCC B2", "complete", "refused unknown"),
-    )
-    both = group_head(("AAA X, BBB X", "CCC X, DDD X", "EEE X, FFF X"), "X 0 3",
-                      places=[place("CCC", "A", 2), place("DDD", "A", 3)])
-    # Two teams of pot 2 have places in group A.
-    yield "two fixed places that cannot both be", both, "AAA", "draw group 6 teams\nimpossible\nrefused excluded"
-    # Position 2 is free for CCC, although EEE, which has no position yet, came from a lower pot.
-    order = group_head(("AAA X", "CCC X", "EEE X"), "X 0 3")
-    yield (
-        "positions in any order", order, "AAA CCC 3 EEE 3 2",
-        answer(3, "AAA", "placed AAA A", "next team pot 2: CCC", "placed CCC A", "next position CCC: 2 3", "stands CCC A3",
-               "next team pot 3: EEE", "placed EEE A", "next position EEE: 2", "refused excluded", "stands EEE A2", "complete"),
     )
 
 
@@ -255,10 +262,12 @@ def faulty_heads(changed, changed_item):
 
 
 def heads_with_places(changed):
-    right = place("AAA", "A", 1)
-    for item in (place("EEE", "A", 1), place("AAA", "C", 1), place("CCC", "A", 3), place("CCC", "A", 1), place("AAA", "A", 2), right,
-                 place("BBB", "A", 1), place("AAA", "B", 1)):
-        yield changed(CLASH, places=[right, item]), "12 BadPlace 1"
+    for item in (place("EEE", "A", 1), place("AAA", "C", 1), place("AAA", "Z", 1), place("CCC", "A", 3), place("CCC", "A", 1),
+                 place("AAA", "A", 2), place("AAA", "A", 2**64 - 1)):
+        yield changed(CLASH, places=[item]), "12 BadPlace 0"
+        yield changed(CLASH, places=[place("BBB", "B", 1), item]), "12 BadPlace 1"
+    for item in (place("AAA", "A", 1), place("AAA", "B", 1), place("BBB", "A", 1)):
+        yield changed(CLASH, places=[place("AAA", "A", 1), item]), "12 BadPlace 1"
     for items in ([place("CCC", "B", 2), place("AAA", "B", 1)], [place("CCC", "A", 2), place("DDD", "B", 2)], []):
         yield changed(CLASH, places=items), None
 

@@ -90,13 +90,19 @@ def pairing_rows():
     yield "as long as may be", "follow", cl16 + spaces, 0, OPENING
     yield "longer than may be", "follow", cl16 + spaces + b" ", 6, None
     yield (
-        "the limit of commands", "follow", with_balls(TINY, *[b"offers"] * 4096, "BBB"), 0,
+        "the limit of commands", "follow", with_balls(TINY, *[b"offer"] * 4096, "BBB"), 0,
         "draw pairing 2 teams\nnext runner-up: BBB\n" + "refused form\n" * 4096 + "refused limit",
     )
     yield (
         "the smallest draw", "follow", with_balls(TINY, "BBB", "AAA", "BBB"), 0,
         "draw pairing 2 teams\nnext runner-up: BBB\ndrawn BBB\nnext opponent BBB: AAA\npaired BBB AAA\ncomplete\nrefused complete",
     )
+    yield "the example", "follow", cl16 + example("round-of-16-2021.balls"), 0, example("round-of-16-2021.answer").decode()[:-1]
+
+
+def pairing_tables():
+    cl16 = example("round-of-16-2021.json")
+    yield "the example's table", "judge", cl16 + example("round-of-16-2021.table"), 0, "legal"
     for line, status, text in (
         (b"RMA MUN MCI LIV AJX JUV BAY LIL", 0, "legal"),
         (b"RMA JUV MCI LIV AJX MUN BAY LIL", 7, "broken 2 13 5"),
@@ -106,8 +112,6 @@ def pairing_rows():
         (b"RMA", 7, "not a table"),
     ):
         yield f"the table {line.decode()}", "judge", with_balls(cl16, line), status, text
-    yield "the example", "follow", cl16 + example("round-of-16-2021.balls"), 0, example("round-of-16-2021.answer").decode()[:-1]
-    yield "its table", "judge", cl16 + example("round-of-16-2021.table"), 0, "legal"
 
 
 def pairing_heads():
@@ -189,6 +193,7 @@ def by_programs(folder):
 def rows_of(kinds):
     if "pairing" in kinds:
         yield from pairing_rows()
+        yield from pairing_tables()
         yield from head_rows(pairing_heads())
     if "group" in kinds:
         yield from reference_group_rows.draw_rows(example, with_balls)

@@ -108,9 +108,11 @@ class Comparison:
             text = reference_rows.text_of(head)
             self.note(not self.is_valid(text), "the schema takes what it has to refuse", text)
             self.note(fault_of(text), "the schema's case is no fault of the program", text)
-        listed = re.findall(r"^- (.*?)[;.]$", GUIDE.read_text().partition("### What no schema can say")[2].partition("\n#")[0], re.M)
+        section = GUIDE.read_text().partition("### What no schema can say")[2].partition("\n#")[0]
+        listed = re.findall(r"^- (.*?)[;.]$", section, re.M)
         cases = list(beyond_the_schema())
-        self.note({what for what, _, _ in cases} == set(listed), "the guide lists something else that no schema can say", repr(listed).encode())
+        same = {what for what, _, _ in cases} == set(listed)
+        self.note(same, "the guide lists something else that no schema can say", repr(listed).encode())
         for what, head, fault in cases:
             text = head.encode() if isinstance(head, str) else reference_rows.text_of(head)
             self.note(self.is_valid(text) and fault_of(text) == fault, what, text)
