@@ -88,7 +88,8 @@ fn offer_of(alloc: Global, state: &State, answers: &[Answer]) -> Result<Offer, N
 {
     let standings = standings_of(alloc, state, answers)?;
     let own = state.clone_in(alloc)?;
-    Ok(Offer::of(own, standings))
+    let offer = Offer::of(alloc, own, standings)?;
+    Ok(offer)
 }
 
 /// How the candidates stand, by the phase.

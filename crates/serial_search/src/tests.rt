@@ -152,29 +152,49 @@ fn first_report(
     ask(alloc, &mut session, &question)
 }
 
-/// Learns that the first team is not in the first group before it asks the empty question.
-fn report_with_lemma(alloc: Global) -> Result<Report, Fail> {
-    let problem = raised(alloc, &CLASH, 0, 8)?;
-    let question = question_of(alloc, 8, &[])?;
-    let mut log = ProofLog::new(alloc, Arc::try_clone(&problem)?);
+/// Learns that the first team is not in the first group.
+fn learn_not_0(alloc: Global, session: &mut Session, problem: SharedProblem) -> Result<(), Fail>
+    requires { arc_value problem ≡ session.old.problem }
+    ensures { session.new.problem ≡ session.old.problem }
+{
+    let mut log = ProofLog::new(alloc, problem);
     let Ok(step) = log.add(alloc, &NOT_0, &NOT_0_HINTS) else {
         return Err("not accepted".into());
     };
     let lemma = log.lemma(alloc, step)?;
-    let mut session = Session::new(alloc, problem)?;
     session.import(alloc, &lemma)?;
-    ask(alloc, &mut session, &question)
+    Ok(())
+}
+
+/// Learns that the first team is not in the first group before it asks the empty question.
+fn report_with_lemma(alloc: Global) -> Result<Report, Fail> {
+    let problem = raised(alloc, &CLASH, 0, 8)?;
+    let mut session = Session::new(alloc, Arc::try_clone(&problem)?)?;
+    learn_not_0(alloc, &mut session, problem)?;
+    ask(alloc, &mut session, &nothing(alloc))
+}
+
+/// Asks two questions in turn, one of them twice.
+fn ask_in_turn(
+    alloc: Global,
+    session: &mut Session,
+    one: &Question,
+    other: &Question,
+) -> Result<(Report, Report, Report), Fail>
+    requires one { are_within session.old.problem.atoms one.now ≡ true }
+    requires other { are_within session.old.problem.atoms other.now ≡ true }
+{
+    let first = ask(alloc, session, one)?;
+    let second = ask(alloc, session, other)?;
+    let third = ask(alloc, session, one)?;
+    Ok((first, second, third))
 }
 
 /// Asks two questions in turn, one of them twice, of one session.
 fn reports_in_turn(alloc: Global) -> Result<(Report, Report, Report), Fail> {
     let apart = question_of(alloc, 8, &APART)?;
-    let empty = question_of(alloc, 8, &[])?;
     let mut session = Session::new(alloc, raised(alloc, &CLASH[..8], 0, 8)?)?;
-    let first = ask(alloc, &mut session, &apart)?;
-    let second = ask(alloc, &mut session, &empty)?;
-    let third = ask(alloc, &mut session, &apart)?;
-    Ok((first, second, third))
+    ask_in_turn(alloc, &mut session, &apart, &nothing(alloc))
 }
 
 /// Asks the empty question of so many pigeons, each of which is to be in a hole of its own.
