@@ -269,7 +269,7 @@ fn hall_sets(rt: HostRuntime) -> Result<(), Fail> {
     for (few, steps) in [(3, 2), (6, 50), (10, 1794), (11, 1794), (15, 50), (18, 2)] {
         let (possible, number, _opened, counts) = empty_report(alloc, hall_set(alloc, few)?)?;
         assert_eq!(rt; (possible, number), (false, steps));
-        assert!(rt; counts.conflicts < 5000 && counts.fallbacks == 0);
+        assert_eq!(rt; (counts.conflicts, counts.fallbacks), (steps as u64, 0));
     }
     Ok(())
 }
