@@ -25,6 +25,7 @@ mod refuting;
 mod rounds;
 mod session;
 mod side;
+mod slacks;
 mod solving;
 #[cfg(test)]
 mod tests;

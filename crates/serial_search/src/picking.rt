@@ -6,27 +6,25 @@ ghost use Rattle.serial_search.specs.Sides.{AreAllSet};
 use count_core::{Atom, CountRule, Lit};
 use propagation::Engine;
 
-/// How the search picks the literal that it splits on. A rule is open where fewer of its literals
-/// are true than must be. Where no rule is open, the first unset atom is made false.
+/// How the search picks the literal that it splits on: the first unset one of the open rule that had
+/// the least slack where the run began. A rule is open where fewer of its literals are true than must
+/// be. Where no rule is open, the first unset atom is made false.
 #[derive(Clone, Copy, Debug, PartialEq, Eq)]
 pub(crate) enum Heuristic {
-    /// The first unset literal of the open rule that has the fewest of them.
-    FewestUnset,
-    /// The first unset atom, made true.
-    FirstUnset,
-    /// As `FewestUnset` among the rules from this place on, and among those before it only where
-    /// none of these is open.
-    FewestUnsetFrom { place: usize },
+    /// Of rules with the same slack the first.
+    LeastSlack,
+    /// Of rules with the same slack the first from this place on, or else the first.
+    LeastSlackFrom { place: usize },
 }
 
 /// A literal whose atom is unset, or none where each atom is set.
-pub(crate) fn pick(engine: &Engine, heuristic: Heuristic) -> Option<Lit>
+pub(crate) fn pick(engine: &Engine, slacks: &[usize], heuristic: Heuristic) -> Option<Lit>
     ensures free { IfSome result (λ l. IsFree (values_in engine.now) l) }
     ensures below { IfSome result (λ l. length engine.now.entries < engine.now.problem.atoms) }
     ensures none { IfNone result (AreAllSet (values_in engine.now)) }
 {
     let values = engine.values();
-    let advice = advised(values, engine.problem().rules(), heuristic);
+    let advice = advised(values, engine.problem().rules(), slacks, heuristic);
     free_literal(values, engine.problem().atoms(), advice)
 }
 
@@ -63,18 +61,33 @@ fn is_free(values: &[Option<bool>], lit: Lit) -> bool
 }
 
 /// The literal that the heuristic advises, or none where no rule is open. Nothing rests on it.
-fn advised(values: &[Option<bool>], rules: &[CountRule], heuristic: Heuristic) -> Option<Lit> {
-    match heuristic {
-        Heuristic::FewestUnset => fewest_unset(values, rules),
-        Heuristic::FirstUnset if rules.iter().any(|rule| is_open(values, rule)) => {
-            first_unset(values)
-        }
-        Heuristic::FirstUnset => None,
-        Heuristic::FewestUnsetFrom { place } => {
-            let (earlier, later) = rules.split_at(place.min(rules.len()));
-            fewest_unset(values, later).or_else(|| fewest_unset(values, earlier))
+fn advised(
+    values: &[Option<bool>],
+    rules: &[CountRule],
+    slacks: &[usize],
+    heuristic: Heuristic,
+) -> Option<Lit> {
+    let from = match heuristic {
+        Heuristic::LeastSlack => 0,
+        Heuristic::LeastSlackFrom { place } => place,
+    };
+    let mut least = usize::MAX;
+    let mut choice = None;
+    for place in (from..rules.len()).chain(0..from) {
+        let (Some(rule), Some(slack)) = (rules.get(place), slacks.get(place)) else {
+            continue;
+        };
+        if *slack < least && is_open(values, rule) {
+            least = *slack;
+            choice = first_free(values, rule.lits.as_slice());
         }
     }
+    choice
+}
+
+/// The first of the literals whose atom is unset.
+fn first_free(values: &[Option<bool>], lits: &[Lit]) -> Option<Lit> {
+    lits.iter().copied().find(|lit| is_free(values, *lit))
 }
 
 /// The place where the rules of another side begin: that of the next rule that asks for true literals
@@ -98,23 +111,6 @@ fn share_an_atom(one: &CountRule, other: &CountRule) -> bool {
     one.lits.as_slice().iter().any(is_shared)
 }
 
-/// The first unset literal of the open rule that has the fewest.
-fn fewest_unset(values: &[Option<bool>], rules: &[CountRule]) -> Option<Lit> {
-    let mut fewest = usize::MAX;
-    let mut choice = None;
-    for rule in rules {
-        if is_open(values, rule) {
-            let lits = rule.lits.as_slice();
-            let unset = lits.iter().filter(|lit| is_free(values, **lit)).count();
-            if unset < fewest {
-                fewest = unset;
-                choice = lits.iter().copied().find(|lit| is_free(values, *lit));
-            }
-        }
-    }
-    choice
-}
-
 /// Whether fewer of the rule's literals are true than must be.
 fn is_open(values: &[Option<bool>], rule: &CountRule) -> bool {
     rule.lo > 0 && true_number(values, rule.lits.as_slice()) < rule.lo as usize
@@ -127,16 +123,4 @@ fn true_number(values: &[Option<bool>], lits: &[Lit]) -> usize {
 fn is_true(values: &[Option<bool>], lit: Lit) -> bool {
     let place = lit.atom.0 as usize;
     place < values.len() && values[place] == Some(lit.positive)
-}
-
-/// The first unset atom, made true.
-fn first_unset(values: &[Option<bool>]) -> Option<Lit> {
-    let place = values.iter().position(|value| value.is_none())?;
-    if place > u32::MAX as usize {
-        return None;
-    }
-    Some(Lit {
-        atom: Atom(place as u32),
-        positive: true,
-    })
 }

@@ -31,7 +31,7 @@ pub(crate) fn search_by_learning(
     ensures longer { spec.IsLonger engine.old.entries engine.new.entries }
 {
     let base = engine.mark();
-    work.clear_levels();
+    work.begin_run();
     for _turn in 0..u64::MAX {
         if let Some(side) = take_turn(alloc, log, engine, work, heuristic, base)? {
             return Ok(side);
@@ -62,7 +62,8 @@ fn take_turn(
         let ended = resolve(alloc, log, engine, work, cause, base)?;
         return Ok(ended);
     }
-    let Some(split) = pick(engine, heuristic) else {
+    work.measure_slacks(engine);
+    let Some(split) = pick(engine, work.slacks(), heuristic) else {
         return Ok(Some(Side::Found));
     };
     work.count_decision();

@@ -40,7 +40,7 @@ impl Session {
     pub fn new(alloc: Global, problem: SharedProblem) -> Result<Session, NoMemory>
         ensures { IfOk result (λ s. s.problem ≡ arc_value problem) }
     {
-        let work = Work::new(alloc, problem.atoms())?;
+        let work = Work::new(alloc, &problem)?;
         let own = Arc::try_clone(&problem)?;
         let mut engine = Engine::new(alloc, own)?;
         engine.reserve(alloc)?;

@@ -44,7 +44,7 @@ pub(crate) fn search(
     if let Found::Conflict { cause } = set_what_follows(engine, work) {
         return Ok(Side::Closed(refute(alloc, log, engine, work, cause, level)?));
     }
-    let Some(split) = pick(engine, heuristic) else {
+    let Some(split) = pick(engine, work.slacks(), heuristic) else {
         return Ok(Side::Found);
     };
     work.count_decision();

@@ -77,24 +77,45 @@ fn raised(alloc: Global, rows: &[Row<'_>], by: u32, atoms: u32) -> Result<Shared
     shared(alloc, atoms, rules)
 }
 
-/// Each pigeon is in one hole, and in a hole is at most one pigeon.
-fn pigeonholes(alloc: Global, pigeons: u32, holes: u32) -> Result<SharedProblem, Fail> {
+/// The rule that from `lo` to 1 of so many atoms are true: of the first, and each `step` further on.
+fn line_of(alloc: Global, first: u32, step: u32, number: u32, lo: u32) -> Result<CountRule, Fail> {
+    let mut line = Vec::new(alloc);
+    for place in 0..number {
+        line.push(first.wrapping_add(place.wrapping_mul(step)))?;
+    }
+    rule_of(alloc, line.as_slice(), lo, 1)
+}
+
+/// Each pigeon is in one hole, and in a hole is at most one pigeon. There is one hole fewer.
+fn pigeonholes(alloc: Global, pigeons: u32) -> Result<SharedProblem, Fail> {
+    let holes = pigeons.saturating_sub(1);
     let mut rules = Vec::new(alloc);
     for pigeon in 0..pigeons {
-        let mut row = Vec::new(alloc);
-        for hole in 0..holes {
-            row.push(pigeon.wrapping_mul(holes).wrapping_add(hole))?;
-        }
-        rules.push(rule_of(alloc, row.as_slice(), 1, 1)?)?;
+        rules.push(line_of(alloc, pigeon.wrapping_mul(holes), 1, holes, 1)?)?;
     }
     for hole in 0..holes {
-        let mut row = Vec::new(alloc);
-        for pigeon in 0..pigeons {
-            row.push(pigeon.wrapping_mul(holes).wrapping_add(hole))?;
-        }
-        rules.push(rule_of(alloc, row.as_slice(), 0, 1)?)?;
+        rules.push(line_of(alloc, hole, holes, pigeons, 0)?)?;
     }
     shared(alloc, pigeons.wrapping_mul(holes), rules)
+}
+
+/// A pairing of 20 runners-up and 20 winners. So many of the runners-up may meet only the last
+/// winners, one fewer, and none meets the winner of its own number.
+fn hall_set(alloc: Global, few: u32) -> Result<SharedProblem, Fail> {
+    let mut rules = Vec::new(alloc);
+    for runner_up in 0..20u32 {
+        rules.push(line_of(alloc, runner_up.wrapping_mul(20), 1, 20, 1)?)?;
+    }
+    for winner in 0..20u32 {
+        rules.push(line_of(alloc, winner, 20, 20, 1)?)?;
+    }
+    for atom in 0..400u32 {
+        let (runner_up, winner) = (atom / 20, atom % 20);
+        if runner_up == winner || (runner_up < few && winner.wrapping_add(few) <= 20) {
+            rules.push(rule_of(alloc, &[atom], 0, 0)?)?;
+        }
+    }
+    shared(alloc, 400, rules)
 }
 
 /// Whether each literal is over one of so many atoms.
@@ -197,10 +218,8 @@ fn reports_in_turn(alloc: Global) -> Result<(Report, Report, Report), Fail> {
     ask_in_turn(alloc, &mut session, &apart, &nothing(alloc))
 }
 
-/// Asks the empty question of so many pigeons, each of which is to be in a hole of its own.
-fn pigeon_report(alloc: Global, pigeons: u32) -> Result<Report, Fail> {
-    let holes = pigeons.saturating_sub(1);
-    let problem = pigeonholes(alloc, pigeons, holes)?;
+/// Asks the empty question of a new session.
+fn empty_report(alloc: Global, problem: SharedProblem) -> Result<Report, Fail> {
     let mut session = Session::new(alloc, problem)?;
     ask(alloc, &mut session, &nothing(alloc))
 }
@@ -252,7 +271,23 @@ fn a_lemma_is_learnt(rt: HostRuntime) -> Result<(), Fail> {
 fn pigeons(rt: HostRuntime) -> Result<(), Fail> {
     let alloc = rt.alloc();
     for (pigeons, steps) in [(6, 50), (10, 1794)] {
-        let (possible, number, _opened, counts) = pigeon_report(alloc, pigeons)?;
+        let (possible, number, _opened, counts) = empty_report(
+            alloc,
+            pigeonholes(alloc, pigeons)?,
+        )?;
+        assert_eq!(rt; (possible, number), (false, steps));
+        assert_eq!(rt; (counts.conflicts, counts.fallbacks), (steps as u64, 0));
+    }
+    Ok(())
+}
+
+/// A Hall set of k runners-up has the same refutation as k pigeons. It leaves 21 - k winners to one
+/// runner-up fewer, and so one of 21 - k has it too.
+#[test]
+fn hall_sets(rt: HostRuntime) -> Result<(), Fail> {
+    let alloc = rt.alloc();
+    for (few, steps) in [(3, 2), (6, 50), (10, 1794), (11, 1794), (15, 50), (18, 2)] {
+        let (possible, number, _opened, counts) = empty_report(alloc, hall_set(alloc, few)?)?;
         assert_eq!(rt; (possible, number), (false, steps));
         assert_eq!(rt; (counts.conflicts, counts.fallbacks), (steps as u64, 0));
     }

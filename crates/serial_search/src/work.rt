@@ -1,7 +1,8 @@
 use crate::analysis::Analysis;
 use crate::counts::Counts;
-use count_core::NoMemory;
-use propagation::Mark;
+use crate::slacks::Slacks;
+use count_core::{NoMemory, Problem};
+use propagation::{Engine, Mark};
 use std::alloc::Global;
 
 /// What a search needs beside engine and log. Nothing that it holds changes an answer.
@@ -15,12 +16,14 @@ pub(crate) struct Work {
     pub(crate) left: u64,
     /// The marks before the decisions of the present run, in their order.
     levels: Vec<Mark>,
+    slacks: Slacks,
 }
 
 impl Work {
-    /// Nothing is counted. The problem has so many atoms.
-    pub(crate) fn new(alloc: Global, atoms: u32) -> Result<Work, NoMemory> {
-        let analysis = Analysis::new(alloc, atoms)?;
+    /// Nothing is counted.
+    pub(crate) fn new(alloc: Global, problem: &Problem) -> Result<Work, NoMemory> {
+        let analysis = Analysis::new(alloc, problem.atoms())?;
+        let slacks = Slacks::new(alloc, problem.rules().len())?;
         Ok(Work {
             analysis,
             counts: Counts {
@@ -32,6 +35,7 @@ impl Work {
             opened: 0,
             left: 0,
             levels: Vec::new(alloc),
+            slacks,
         })
     }
 
@@ -66,9 +70,21 @@ impl Work {
         false
     }
 
-    /// No decision is made yet.
-    pub(crate) fn clear_levels(&mut self) {
+    /// A run begins: no decision is made yet, and no slack is measured.
+    pub(crate) fn begin_run(&mut self) {
         self.levels.clear();
+        self.slacks.forget();
+    }
+
+    /// Measures the slacks of the rules, where that was not done in this run.
+    pub(crate) fn measure_slacks(&mut self, engine: &Engine) {
+        self.slacks
+            .measure(engine.values(), engine.problem().rules());
+    }
+
+    /// The slacks, by rule, that were measured last.
+    pub(crate) fn slacks(&self) -> &[usize] {
+        self.slacks.as_slice()
     }
 
     /// Notes the mark before a decision.
