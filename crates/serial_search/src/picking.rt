@@ -6,14 +6,15 @@ ghost use Rattle.serial_search.specs.Sides.{AreAllSet};
 use count_core::{Atom, CountRule, Lit};
 use propagation::Engine;
 
-/// How the search picks the literal that it splits on: the first unset one of the open rule that had
-/// the least slack where the run began. A rule is open where fewer of its literals are true than must
-/// be. Where no rule is open, the first unset atom is made false.
+/// How the search picks the literal that it splits on: the first unset one of an open rule. A rule is
+/// open where fewer of its literals are true than must be. Where no rule is open, the first unset atom
+/// is made false.
 #[derive(Clone, Copy, Debug, PartialEq, Eq)]
 pub(crate) enum Heuristic {
-    /// Of rules with the same slack the first.
-    LeastSlack,
-    /// Of rules with the same slack the first from this place on, or else the first.
+    /// Of the open rule that has the fewest unset literals.
+    FewestUnset,
+    /// Of the open rule that had the least slack where the run began; of rules with the same slack
+    /// the first from this place on, or else the first.
     LeastSlackFrom { place: usize },
 }
 
@@ -67,10 +68,37 @@ fn advised(
     slacks: &[usize],
     heuristic: Heuristic,
 ) -> Option<Lit> {
-    let from = match heuristic {
-        Heuristic::LeastSlack => 0,
-        Heuristic::LeastSlackFrom { place } => place,
-    };
+    match heuristic {
+        Heuristic::FewestUnset => fewest_unset(values, rules),
+        Heuristic::LeastSlackFrom { place } => least_slack(values, rules, slacks, place),
+    }
+}
+
+/// The first unset literal of the open rule that has the fewest.
+fn fewest_unset(values: &[Option<bool>], rules: &[CountRule]) -> Option<Lit> {
+    let mut fewest = usize::MAX;
+    let mut choice = None;
+    for rule in rules {
+        if is_open(values, rule) {
+            let lits = rule.lits.as_slice();
+            let unset = lits.iter().filter(|lit| is_free(values, **lit)).count();
+            if unset < fewest {
+                fewest = unset;
+                choice = first_free(values, lits);
+            }
+        }
+    }
+    choice
+}
+
+/// The first unset literal of the open rule that has the least of these slacks; of rules with the
+/// same slack the first from this place on, or else the first.
+fn least_slack(
+    values: &[Option<bool>],
+    rules: &[CountRule],
+    slacks: &[usize],
+    from: usize,
+) -> Option<Lit> {
     let mut least = usize::MAX;
     let mut choice = None;
     for place in (from..rules.len()).chain(0..from) {

@@ -62,7 +62,7 @@ fn take_turn(
         let ended = resolve(alloc, log, engine, work, cause, base)?;
         return Ok(ended);
     }
-    work.measure_slacks(engine);
+    work.measure_slacks(engine, heuristic);
     let Some(split) = pick(engine, work.slacks(), heuristic) else {
         return Ok(Some(Side::Found));
     };

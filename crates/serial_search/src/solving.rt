@@ -52,7 +52,7 @@ pub(crate) fn search_to_end(
         budget = budget.saturating_mul(2);
     }
     ask(engine, question);
-    search(alloc, log, engine, work, Heuristic::LeastSlack, None)
+    search(alloc, log, engine, work, Heuristic::FewestUnset, None)
 }
 
 /// Searches by each heuristic for so many conflicts.
@@ -72,15 +72,21 @@ fn search_round(
     ensures continued { spec.IsContinued log.old log.new }
 {
     work.left = budget;
-    let first = Heuristic::LeastSlack;
+    let first = Heuristic::FewestUnset;
     let side = search_once(alloc, question, log, engine, work, first)?;
     if !is_stopped(side) {
         return Ok(side);
     }
     work.left = budget;
+    let second = Heuristic::LeastSlackFrom { place: 0 };
+    let side = search_once(alloc, question, log, engine, work, second)?;
+    if !is_stopped(side) {
+        return Ok(side);
+    }
+    work.left = budget;
     let place = other_side_of(engine.problem().rules());
-    let second = Heuristic::LeastSlackFrom { place };
-    search_once(alloc, question, log, engine, work, second)
+    let third = Heuristic::LeastSlackFrom { place };
+    search_once(alloc, question, log, engine, work, third)
 }
 
 fn is_stopped(side: Side) -> bool

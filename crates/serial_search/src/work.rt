@@ -1,5 +1,6 @@
 use crate::analysis::Analysis;
 use crate::counts::Counts;
+use crate::picking::Heuristic;
 use crate::slacks::Slacks;
 use count_core::{NoMemory, Problem};
 use propagation::{Engine, Mark};
@@ -76,10 +77,13 @@ impl Work {
         self.slacks.forget();
     }
 
-    /// Measures the slacks of the rules, where that was not done in this run.
-    pub(crate) fn measure_slacks(&mut self, engine: &Engine) {
-        self.slacks
-            .measure(engine.values(), engine.problem().rules());
+    /// Measures the slacks of the rules, where the heuristic goes by them and that was not done in
+    /// this run.
+    pub(crate) fn measure_slacks(&mut self, engine: &Engine, heuristic: Heuristic) {
+        if heuristic != Heuristic::FewestUnset {
+            self.slacks
+                .measure(engine.values(), engine.problem().rules());
+        }
     }
 
     /// The slacks, by rule, that were measured last.
