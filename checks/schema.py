@@ -1,6 +1,6 @@
 """Tests docs/draw-file.schema.json: every example is valid by it, what it refuses is refused by the
-independent program too (as if all kinds were built), and what it cannot say is as docs/DRAW-FILES.md
-lists it. Skipped where Python has no `jsonschema`.
+independent program too (as if all kinds were built) and, with `--built`, by the built program, and what it cannot
+say is as docs/DRAW-FILES.md lists it. Skipped where Python has no `jsonschema`.
 """
 
 import argparse
@@ -86,7 +86,8 @@ def fault_of(text):
 class Comparison:
     """What schema and program say of heads, and what was wrong of it."""
 
-    def __init__(self):
+    def __init__(self, program):
+        self.program = program
         schema = json.loads(SCHEMA.read_text())
         jsonschema.Draft7Validator.check_schema(schema)
         self.validator = jsonschema.Draft7Validator(schema)
@@ -101,13 +102,17 @@ class Comparison:
     def is_valid(self, text):
         return self.validator.is_valid(read_json(text))
 
+    def is_refused(self, text):
+        """Whether the independent program refuses a head, and the built one, where there is one."""
+        return fault_of(text) and (not self.program or comparing.run(self.program, "follow", text)[0] == 2)
+
     def check_lists(self):
         for path in sorted(comparing.TOP.glob("examples/*.json")):
             self.note(self.is_valid(path.read_bytes()), "the schema refuses an example", path.name.encode())
         for head in refused_heads():
             text = reference_rows.text_of(head)
             self.note(not self.is_valid(text), "the schema takes what it has to refuse", text)
-            self.note(fault_of(text), "the schema's case is no fault of the program", text)
+            self.note(self.is_refused(text), "the schema's case is no fault of the program", text)
         section = GUIDE.read_text().partition("### What no schema can say")[2].partition("\n#")[0]
         listed = re.findall(r"^- (.*?)[;.]$", section, re.M)
         cases = list(beyond_the_schema())
@@ -124,18 +129,19 @@ class Comparison:
             text = json.dumps(head).encode()
             self.note(self.is_valid(text), "the schema refuses a draw file", text)
             text = json.dumps(random_heads.damage(rng, head)).encode()
-            self.note(self.is_valid(text) or fault_of(text), "the schema refuses a draw file", text)
+            self.note(self.is_valid(text) or self.is_refused(text), "the schema refuses a draw file", text)
 
 
 def main():
     parser = argparse.ArgumentParser(description=__doc__)
     parser.add_argument("--heads", type=int, default=300, help="so many random heads")
     parser.add_argument("--seed", type=int, default=1)
+    parser.add_argument("--built", action="store_true", help="ask the built program too")
     words = parser.parse_args()
     if jsonschema is None:
         print("the schema of draw files is not tested here: Python has no jsonschema")
         return 0
-    comparison = Comparison()
+    comparison = Comparison(comparing.path_of("draw") if words.built else None)
     comparison.check_lists()
     comparison.check_random(random.Random(words.seed), words.heads)
     print(f"{comparison.count - comparison.bad} of {comparison.count} cases of the schema are as they should be")
