@@ -12,7 +12,7 @@ use Rattle.count_core.specs.Problems.{first_fault}
 use Rattle.count_core.specs.Steps.{AreAccepted}
 use Rattle.cert_checker.specs.Checks.{IsFirstBad}
 use Rattle.cert_checker.specs.Countable.{AreCountable}
-use Rattle.stepcheck.specs.ListTexts.{IsListText, IsNoListText, IsFirstWrongLine}
+use Rattle.list_texts.specs.ListTexts.{IsListText, IsNoListText, IsFirstWrongLine}
 
 -- the words' bytes
 abbrev pub words_of : List (String Global) → List (List ℕ)

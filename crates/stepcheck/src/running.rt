@@ -1,17 +1,16 @@
 ghost use Rattle.std.specs.Prelude.{◌≡◌, ◌≢◌, ◌⊎◌, ℕ, IfOk, IsErrOf, MatchOption, string_bytes};
 ghost use Rattle.std.specs.Io.KnownBytes.{Appends, Keeps, IsAtEnd};
 ghost use Rattle.draw_ports.specs.Causes.{Rose, AppendsSome};
-ghost use Rattle.stepcheck.specs.ListTexts.{IsNoListText, IsFirstWrongLine};
+ghost use Rattle.list_texts.specs.ListTexts.{IsNoListText, IsFirstWrongLine};
 ghost use Rattle.stepcheck.specs.Runs.{words_of, AreLimit, HaveLimit, usage_line, bad_line, no_list_line, fault_line, IsCountableList, IsUncountableText, GainsApproval, GainsObjection, GainsRefusal, GainsPart, FitsLimit, IsTooMuch, HoldsAccepted, HoldsBad, HoldsRefused, HoldsTooMuch};
 ghost use Rattle.stepcheck.specs.Verdicts.{IsListReport, IsReportOf};
 
-use crate::listing::{ListFault, Listing};
 use crate::status::Status;
 use crate::verdict::{Unsaid, Verdict, verdict_of};
-use crate::words::number_of;
 use cert_checker::Checked;
 use count_core::CoreFault;
 use draw_ports::{PortFault, Sink, Source, put_all, read_all};
+use list_texts::{ListFault, Listing, number_of};
 use std::alloc::{AllocError, Global};
 
 const USAGE: &[u8] = b"usage: stepcheck BYTES\n";
