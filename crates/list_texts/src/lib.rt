@@ -8,17 +8,23 @@
 //! What was read is the only thing that has the text; of any other text the first wrong line is
 //! told. Nothing is promised of what a text lists: whether its rules make a problem, and its steps
 //! are accepted, others decide.
+//!
+//! What programs that read such a text share stands here too: the one word that they are called
+//! with, and the lines that they write of a text that they refuse.
 #![tactic(auto)]
 
 mod fault;
 mod inquiry;
+mod limit;
 mod lines;
 mod listing;
+mod refusals;
 mod words;
 mod writing;
 
 pub use fault::ListFault;
 pub use inquiry::Inquiry;
+pub use limit::limit_of;
 pub use listing::Listing;
-pub use words::number_of;
+pub use refusals::{fault_line, no_list_line};
 pub use writing::add_step;

@@ -40,7 +40,7 @@ fn begin_as_number(digits: &[u8]) -> bool
 
 /// The number of these digits: decimal, at least one digit, without sign or leading zero, below
 /// 2^64.
-pub fn number_of(digits: &[u8]) -> Option<u64>
+pub(crate) fn number_of(digits: &[u8]) -> Option<u64>
     ensures { MatchOption result (AreNoDigits (2 ^ 64) digits.now) (λ number. AreDigitsOf (2 ^ 64) digits.now number) }
 {
     if !begin_as_number(digits) {

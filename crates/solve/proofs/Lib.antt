@@ -1,0 +1,6 @@
+-- one answer put behind the others
+pub mod MoreAnswers
+-- what is told of bytes excludes what else may be
+pub mod OneReport
+-- what a run read and wrote makes a row of the table of statuses
+pub mod RowsOfStatuses
