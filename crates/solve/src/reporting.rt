@@ -90,11 +90,7 @@ fn problem_report(alloc: Global, problem: Problem, questions: &[Lits]) -> Result
 }
 
 /// The line of the first question that may not be asked.
-fn question_line(
-    alloc: Global,
-    place: usize,
-    fault: QuestionFault,
-) -> Result<Vec<u8>, NoMemory>
+fn question_line(alloc: Global, place: usize, fault: QuestionFault) -> Result<Vec<u8>, NoMemory>
     ensures { IfOk result (λ text. text.items ≡ question_line place fault) }
 {
     let text = match fault {

@@ -41,12 +41,7 @@ fn finish<K: Sink>(out: &mut K, text: &[u8], status: Status) -> Status
 }
 
 /// Reads an inquiry of at most `limit` bytes, and writes what is said of it.
-fn answer_source<S: Source, K: Sink>(
-    alloc: Global,
-    limit: u64,
-    src: &mut S,
-    out: &mut K,
-) -> Status
+fn answer_source<S: Source, K: Sink>(alloc: Global, limit: u64, src: &mut S, out: &mut K) -> Status
     ensures ends { EndsWithin limit result
         (outside (S.left src.old) (K.wrote out.old) (S.faults src.old) (K.faults out.old))
         (outside (S.left src.new) (K.wrote out.new) (S.faults src.new) (K.faults out.new)) }
