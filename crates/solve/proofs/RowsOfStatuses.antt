@@ -4,13 +4,13 @@ use Rattle.std.specs.Prelude.{IfSome, IsSomeAnd}
 use Rattle.std.specs.Io.KnownBytes.{Consumes, IsAtEnd, Appends}
 use Rattle.draw_ports.specs.Causes.{Rose, AppendsSome}
 use Rattle.draw_ports.specs.Outside.{Outside, NothingFailed}
-use Rattle.list_texts.specs.Limits.{AreLimit}
+use Rattle.list_texts.specs.Limits.{AreLimit, HaveLimit}
 use Rattle.std.specs.Fmt.{decimal}
 use Rattle.std.proofs.lemmas.Fmt.{decimal_injective}
 use Rattle.solve.specs.declared.status.Status.{Status}
-use Rattle.solve.specs.Reports.{IsAnswering, IsRefusalOf, IsReportOf, IsUnsaid, IsUncountableText}
+use Rattle.solve.specs.Reports.{IsAnswering, IsRefusalOf, IsReportOf}
 use Rattle.solve.specs.Transfers.{IsRead, IsPut}
-use Rattle.solve.specs.Endings.{WritesWhole, WritesPart, IsWritten, EndsWithin, Ends, IsDecided, EndsAsDecided, IsComplete}
+use Rattle.solve.specs.Endings.{usage_line, WritesWhole, WritesPart, IsWritten, EndsWithin, EndsUnasked, Ends, IsDecided, EndsAsDecided, IsComplete}
 use Rattle.solve.proofs.OneReport.{report_decides}
 
 -- what the source told is what was read
@@ -68,6 +68,22 @@ module _ (limit : ℕ) (bytes : List ℕ) (old new : Outside) (read : IsRead lim
     complete wanted status is (inl done) called calls none =
         inl (done.0 ∙ report_decides bytes text limit wanted called read.fits is (told bytes old.left new.left (λ held. IsDecided limit held called) read.all read.end calls))
     complete wanted status is (inr failed) called calls none = absurd (none.1 failed.2)
+
+-- ---- words that are not one limit
+
+unasked_row : (status : Status) (old new : Outside) → new.left ≡ old.left → new.read_faults ≡ old.read_faults
+    → IsPut usage_line Status.Usage status old.wrote new.wrote old.write_faults new.write_faults → EndsUnasked status old new
+unasked_row status old new same quiet (inl done) =
+    subst (λ s. EndsUnasked s old new) (sym done.0) (record { gained = done.1; left = same; source_quiet = quiet; sink_quiet = done.2 })
+unasked_row status old new same quiet (inr failed) =
+    subst (λ s. EndsUnasked s old new) (sym failed.0) (record { rose = failed.2; part = failed.1; left = same; source_quiet = quiet })
+
+pub unasked : (status : Status) (words : List (List ℕ)) (old new : Outside) → ¬ HaveLimit words → new.left ≡ old.left → new.read_faults ≡ old.read_faults
+    → IsPut usage_line Status.Usage status old.wrote new.wrote old.write_faults new.write_faults → Ends status words old new
+unasked status words old new none same quiet put = record {
+  asked = λ limit are. absurd (none (limit, are));
+  unasked = λ _. unasked_row status old new same quiet put;
+}
 
 -- ---- words that are one limit are no other
 
