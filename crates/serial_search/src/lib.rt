@@ -17,6 +17,8 @@ mod counts;
 mod deciding;
 mod importing;
 mod learning;
+#[cfg(test)]
+mod memory_tests;
 mod merging;
 mod outcome;
 mod picking;

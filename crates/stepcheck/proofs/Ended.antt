@@ -5,7 +5,8 @@ use Rattle.draw_ports.specs.Causes.{Rose, AppendsSome}
 use Rattle.draw_ports.specs.Outside.{Outside}
 use Rattle.stepcheck.specs.declared.status.Status.{Status}
 use Rattle.stepcheck.specs.declared.status.Status.TheVariants.{Accepted, Usage, Refused, ReadFault, WriteFault, NoMemory, TooLong, Bad}
-use Rattle.stepcheck.specs.Runs.{HaveLimit, usage_line, IsApprovalOf, IsObjectionTo, IsRefusalOf, Gains, GainsPart, FitsLimit, IsTooMuch, HoldsAccepted, HoldsBad, HoldsRefused, HoldsTooMuch}
+use Rattle.list_texts.specs.Limits.{HaveLimit}
+use Rattle.stepcheck.specs.Runs.{usage_line, IsApprovalOf, IsObjectionTo, IsRefusalOf, Gains, GainsPart, FitsLimit, IsTooMuch, HoldsAccepted, HoldsBad, HoldsRefused, HoldsTooMuch}
 use Rattle.stepcheck.specs.Endings.{Ends, CallsFor}
 
 -- the clauses of `run`, of its status and two moments

@@ -1,7 +1,2 @@
-pub mod Fronts
-pub mod Numbers
-pub mod WordFronts
-pub mod LineFronts
-pub mod Lists
 pub mod Runs
 pub mod Ended

@@ -10,8 +10,9 @@ use Rattle.count_core.specs.declared.step.Step.{Step}
 use Rattle.count_core.specs.Problems.{Problem, first_fault}
 use Rattle.count_core.specs.Steps.{failing_hint, AreAccepted, AreAcceptedAfter}
 use Rattle.cert_checker.specs.Checks.{IsFirstBad}
-use Rattle.stepcheck.specs.Runs.{AreLimit, IsAcceptedList, IsBadList, IsTextWhere, IsAcceptedText, HasBadStep, IsApprovalOf, IsObjectionTo, IsRefusalOf, IsRefused, Gains, GainsPart}
-use Rattle.stepcheck.proofs.Lists.{one_list}
+use Rattle.list_texts.specs.Limits.{AreLimit}
+use Rattle.stepcheck.specs.Runs.{IsAcceptedList, IsBadList, IsTextWhere, IsAcceptedText, HasBadStep, IsApprovalOf, IsObjectionTo, IsRefusalOf, IsRefused, Gains, GainsPart}
+use Rattle.list_texts.proofs.Lists.{one_list}
 
 -- ---- the source
 

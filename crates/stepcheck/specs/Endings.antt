@@ -4,7 +4,8 @@ use Rattle.std.specs.Io.KnownBytes.{Appends, Keeps, IsAtEnd}
 use Rattle.draw_ports.specs.Causes.{Rose, AppendsSome}
 use Rattle.draw_ports.specs.Outside.{Outside}
 use Rattle.stepcheck.specs.declared.status.Status.{Status}
-use Rattle.stepcheck.specs.Runs.{HaveLimit, usage_line, IsApprovalOf, IsObjectionTo, IsRefusalOf, Gains, GainsPart, FitsLimit, IsTooMuch, HoldsAccepted, HoldsBad, HoldsRefused, HoldsTooMuch}
+use Rattle.list_texts.specs.Limits.{HaveLimit}
+use Rattle.stepcheck.specs.Runs.{usage_line, IsApprovalOf, IsObjectionTo, IsRefusalOf, Gains, GainsPart, FitsLimit, IsTooMuch, HoldsAccepted, HoldsBad, HoldsRefused, HoldsTooMuch}
 
 -- ---- the ways to end, from one moment to a later one
 

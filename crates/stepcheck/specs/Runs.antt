@@ -1,32 +1,22 @@
 -- What `stepcheck` writes of what it reads.
-use Rattle.std.specs.Prelude.{◌≡◌, ℕ, ◌<◌, ◌≤◌, ◌^◌, ◌⊎◌, List, [], ◌∷◌, ◌++◌, length, codes, map, Option, Some, None, String, string_bytes, IfSome, IsSomeAnd}
+use Rattle.std.specs.Prelude.{◌≡◌, ℕ, ◌<◌, ◌≤◌, ◌^◌, ◌⊎◌, List, ◌++◌, length, codes, Option, Some, None, IfSome, IsSomeAnd}
 use Rattle.std.specs.Fmt.{decimal}
-use Rattle.std.specs.declared.alloc.Global.{Global}
 use Rattle.std.specs.Io.KnownBytes.{Appends}
 use Rattle.draw_ports.specs.Causes.{AppendsSome}
 use Rattle.count_core.specs.declared.count_rule.CountRule.{CountRule}
 use Rattle.count_core.specs.declared.step.Step.{Step}
 use Rattle.count_core.specs.declared.faults.CoreFault.{CoreFault}
-use Rattle.count_core.specs.declared.faults.CoreFault.TheVariants.{AtomRange, RepeatedAtom, BadBounds, NoMemory}
 use Rattle.count_core.specs.Problems.{first_fault}
 use Rattle.count_core.specs.Steps.{AreAccepted}
 use Rattle.cert_checker.specs.Checks.{IsFirstBad}
 use Rattle.cert_checker.specs.Countable.{AreCountable}
-use Rattle.stepcheck.specs.ListTexts.{IsListText, IsNoListText, IsFirstWrongLine}
+use Rattle.list_texts.specs.ListTexts.{IsListText, IsNoListText, IsFirstWrongLine}
+use Rattle.list_texts.specs.Limits.{AreLimit}
+use Rattle.list_texts.specs.Refusals.{no_list_line, fault_line}
 
--- the words' bytes
-abbrev pub words_of : List (String Global) → List (List ℕ)
-words_of words = map string_bytes words
+-- ---- the words
 
--- The words' one form: one number, which a u64 holds.
-abbrev pub AreLimit : List (List ℕ) → ℕ → Type 0
-AreLimit words limit = (words ≡ decimal limit ∷ []) × (limit < 2 ^ 64)
-
--- the words have the one form
-abbrev pub HaveLimit : List (List ℕ) → Type 0
-HaveLimit words = (limit : ℕ) × AreLimit words limit
-
--- the line that is written where they have not
+-- the line that is written where they are not one limit
 abbrev pub usage_line : List ℕ
 usage_line = codes "usage: stepcheck BYTES\n"
 
@@ -74,17 +64,6 @@ IsUncountableText bytes = IsTextWhere (λ atoms rules steps. IsCountableList rul
 -- the line of a step and its failing hint
 abbrev pub bad_line : ℕ → ℕ → List ℕ
 bad_line step hint = codes "bad " ++ (decimal step ++ (codes " " ++ (decimal hint ++ codes "\n")))
-
--- the line of a text that is no list, by the first line that is wrong
-abbrev pub no_list_line : ℕ → List ℕ
-no_list_line line = codes "not a list " ++ (decimal line ++ codes "\n")
-
--- the line of the rules' fault
-abbrev pub fault_line : CoreFault → List ℕ
-fault_line (AtomRange rule) = codes "problem refused " ++ decimal rule ++ codes " AtomRange\n"
-fault_line (RepeatedAtom rule) = codes "problem refused " ++ decimal rule ++ codes " RepeatedAtom\n"
-fault_line (BadBounds rule) = codes "problem refused " ++ decimal rule ++ codes " BadBounds\n"
-fault_line NoMemory = []
 
 -- the text approves of the bytes, which are an accepted list's text
 abbrev pub IsApprovalOf : List ℕ → List ℕ → Type 0

@@ -9,7 +9,8 @@ use Rattle.stepcheck.specs.declared.verdict.Verdict.{Verdict}
 use Rattle.stepcheck.specs.declared.verdict.Verdict.TheVariants.{Refused as RulesRefused, Checked as StepsChecked}
 use Rattle.stepcheck.specs.declared.running.Report.{Report}
 use Rattle.stepcheck.specs.declared.running.Report.TheVariants.{Accepted, Bad, Refused}
-use Rattle.stepcheck.specs.Runs.{IsAcceptedList, IsBadList, IsAcceptedText, IsObjectionTo, IsRefusalOf, bad_line, fault_line}
+use Rattle.list_texts.specs.Refusals.{fault_line}
+use Rattle.stepcheck.specs.Runs.{IsAcceptedList, IsBadList, IsAcceptedText, IsObjectionTo, IsRefusalOf, bad_line}
 
 -- the verdict is right of the list
 abbrev pub IsVerdictOf : ℕ → List CountRule → List Step → Verdict → Type 0

@@ -1,13 +1,10 @@
 //! The program `stepcheck`: reads a problem and steps as a text, and prints what `check` answers.
 #![tactic(auto)]
 
-mod lines;
-mod listing;
 mod program;
 mod running;
 mod status;
 mod verdict;
-mod words;
 
 use crate::program::run_program;
 use draw_ports::{StdSink, StdSource, read_arguments};

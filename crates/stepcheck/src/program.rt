@@ -6,7 +6,7 @@ ghost use Rattle.draw_ports.specs.Exits.{ExitsWith, IsTold, line_of_status};
 ghost use Rattle.draw_ports.specs.Outside.{outside, NothingFailed};
 ghost use Rattle.stepcheck.specs.declared.status.Status.{Status as StatusValue};
 ghost use Rattle.stepcheck.specs.Statuses.{status_number};
-ghost use Rattle.stepcheck.specs.Runs.{words_of, HaveLimit};
+ghost use Rattle.list_texts.specs.Limits.{words_of, HaveLimit};
 ghost use Rattle.stepcheck.specs.Endings.{Ends, CallsFor};
 
 use crate::running::run;

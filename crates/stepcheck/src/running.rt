@@ -1,30 +1,18 @@
-ghost use Rattle.std.specs.Prelude.{◌≡◌, ◌≢◌, ◌⊎◌, ℕ, IfOk, IsErrOf, MatchOption, string_bytes};
+ghost use Rattle.std.specs.Prelude.{◌≡◌, ◌≢◌, ◌⊎◌, IfOk, IsErrOf};
 ghost use Rattle.std.specs.Io.KnownBytes.{Appends, Keeps, IsAtEnd};
 ghost use Rattle.draw_ports.specs.Causes.{Rose, AppendsSome};
-ghost use Rattle.stepcheck.specs.ListTexts.{IsNoListText, IsFirstWrongLine};
-ghost use Rattle.stepcheck.specs.Runs.{words_of, AreLimit, HaveLimit, usage_line, bad_line, no_list_line, fault_line, IsCountableList, IsUncountableText, GainsApproval, GainsObjection, GainsRefusal, GainsPart, FitsLimit, IsTooMuch, HoldsAccepted, HoldsBad, HoldsRefused, HoldsTooMuch};
+ghost use Rattle.list_texts.specs.Limits.{words_of, HaveLimit};
+ghost use Rattle.stepcheck.specs.Runs.{usage_line, bad_line, IsCountableList, IsUncountableText, GainsApproval, GainsObjection, GainsRefusal, GainsPart, FitsLimit, IsTooMuch, HoldsAccepted, HoldsBad, HoldsRefused, HoldsTooMuch};
 ghost use Rattle.stepcheck.specs.Verdicts.{IsListReport, IsReportOf};
 
-use crate::listing::{ListFault, Listing};
 use crate::status::Status;
 use crate::verdict::{Unsaid, Verdict, verdict_of};
-use crate::words::number_of;
 use cert_checker::Checked;
-use count_core::CoreFault;
 use draw_ports::{PortFault, Sink, Source, put_all, read_all};
+use list_texts::{ListFault, Listing, fault_line, limit_of, no_list_line};
 use std::alloc::{AllocError, Global};
 
 const USAGE: &[u8] = b"usage: stepcheck BYTES\n";
-
-/// The most bytes that are read, where the words are this one number.
-fn limit_of(words: &[String]) -> Option<u64>
-    ensures { MatchOption result (HaveLimit (words_of words.now) → ⊥) (λ limit. AreLimit (words_of words.now) limit) }
-{
-    match words {
-        [word] => number_of(word.as_bytes()),
-        _ => None,
-    }
-}
 
 /// What is written of the bytes that were read.
 #[derive(Drop)]
@@ -74,34 +62,11 @@ fn list_report(alloc: Global, listing: Listing) -> Result<Report, Unsaid>
     }
 }
 
-/// The line where that line of the text is the first that can't be taken.
-fn no_list_line(alloc: Global, line: u64) -> Result<Vec<u8>, AllocError>
-    ensures { IfOk result (λ text. text.items ≡ no_list_line line) }
-{
-    let text = format!(in alloc; "not a list {line}\n")?;
-    Ok(text.into_bytes())
-}
-
 /// The line of the first step that is not accepted.
 fn bad_line(alloc: Global, step: u32, hint: u32) -> Result<Vec<u8>, AllocError>
     ensures { IfOk result (λ text. text.items ≡ bad_line step hint) }
 {
     let text = format!(in alloc; "bad {step} {hint}\n")?;
-    Ok(text.into_bytes())
-}
-
-/// The line of the rules' first fault. Want of memory has none.
-fn fault_line(alloc: Global, fault: CoreFault) -> Result<Vec<u8>, AllocError>
-    ensures { IfOk result (λ text. text.items ≡ fault_line fault) }
-{
-    let text = match fault {
-        CoreFault::AtomRange { rule } => format!(in alloc; "problem refused {rule} AtomRange\n")?,
-        CoreFault::RepeatedAtom { rule } => {
-            format!(in alloc; "problem refused {rule} RepeatedAtom\n")?
-        }
-        CoreFault::BadBounds { rule } => format!(in alloc; "problem refused {rule} BadBounds\n")?,
-        CoreFault::NoMemory => return Err(AllocError),
-    };
     Ok(text.into_bytes())
 }
 

@@ -2,9 +2,9 @@ ghost use Rattle.std.specs.Prelude.{IfOk, IsErrOf};
 ghost use Rattle.stepcheck.specs.Runs.{IsCountableList};
 ghost use Rattle.stepcheck.specs.Verdicts.{IsVerdictOf};
 
-use crate::listing::Listing;
 use cert_checker::{Checked, are_countable, check};
 use count_core::{CoreFault, Problem};
+use list_texts::Listing;
 use std::alloc::Global;
 
 /// What is said of a list.

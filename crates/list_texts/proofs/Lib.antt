@@ -1,0 +1,5 @@
+pub mod Fronts
+pub mod Numbers
+pub mod WordFronts
+pub mod LineFronts
+pub mod Lists

@@ -1,7 +1,0 @@
-use Rattle.std.proofs.Common.{ℕ, ◌<◌, get_or}
-use Rattle.std.specs.Int.{IsInRange}
-use Rattle.stepcheck.proofs.words.count_digits.Given as goal
-
--- the bytes so far are digits
-abbrev pub invariant-loop-place : goal.invariant-loop-place
-invariant-loop-place l = (k : ℕ) → k < l.place → IsInRange 48 57 (get_or l.text k 0)

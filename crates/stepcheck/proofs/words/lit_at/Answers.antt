@@ -1,5 +1,0 @@
-use Rattle.stepcheck.proofs.WordFronts.{no_lit}
-use Rattle.stepcheck.proofs.words.lit_at.Goals as goal
-
-pub returns-in_err-positive-clause-text : goal.returns-in_err-positive-clause-text
-returns-in_err-positive-clause-text c = rw c.from_residual.ensures (no_lit c.args.text.now c.in_err-positive.ensures.text)

@@ -1,6 +1,0 @@
-use Rattle.std.proofs.Common.{arith}
-use Rattle.stepcheck.proofs.Numbers.{not_small}
-use Rattle.stepcheck.proofs.words.small_number_of.Goals as goal
-
-pub returns-in-Err : goal.returns-in-Err
-returns-in-Err c = not_small c.args.digits.now c.in_ok-number.number c.in_ok-number.ensures (omega (arith, c.in-Err.ensures))
