@@ -17,8 +17,6 @@ mod counts;
 mod deciding;
 mod importing;
 mod learning;
-#[cfg(test)]
-mod memory_tests;
 mod merging;
 mod outcome;
 mod picking;

@@ -3,6 +3,8 @@
 #![tactic(auto)]
 
 mod answering;
+#[cfg(test)]
+mod memory_tests;
 mod program;
 mod questions;
 mod reporting;

@@ -2,11 +2,11 @@ ghost use Rattle.std.specs.Prelude.{◌≡◌, true, IfOk};
 ghost use Rattle.std.specs.Arc.{arc_value};
 ghost use Rattle.count_core.specs.Problems.{are_within};
 
-use crate::{Answer, Outcome, Session, solve};
 use count_core::{
     Atom, CountRule, Lit, Lits, NoMemory, Problem, Question, SharedProblem, are_distinct,
 };
 use samples::CLASH;
+use serial_search::{Answer, Outcome, Session, solve};
 use std::alloc::Global;
 use std::sync::Arc;
 use std::test::Fail;
@@ -95,6 +95,22 @@ fn ask(alloc: Global, session: &mut Session, question: &Question) -> Result<(boo
     }
 }
 
+/// Asks two questions in turn, one of them twice.
+fn ask_in_turn(
+    alloc: Global,
+    session: &mut Session,
+    one: &Question,
+    other: &Question,
+) -> Result<[(bool, u32); 3], NoMemory>
+    requires one { are_within session.old.problem.atoms one.now ≡ true }
+    requires other { are_within session.old.problem.atoms other.now ≡ true }
+{
+    let first = ask(alloc, session, one)?;
+    let second = ask(alloc, session, other)?;
+    let third = ask(alloc, session, one)?;
+    Ok([first, second, third])
+}
+
 /// One allocation may fail: `checks/memory` has each fail in its turn.
 #[test]
 fn answers_go_on_after_want_of_memory(rt: HostRuntime) -> Result<(), Fail> {
@@ -103,9 +119,11 @@ fn answers_go_on_after_want_of_memory(rt: HostRuntime) -> Result<(), Fail> {
         Ok(made) => made,
         Err(_) => session_and_questions(alloc)?,
     };
-    let first = ask(alloc, &mut session, &apart)?;
-    let second = ask(alloc, &mut session, &empty)?;
-    let third = ask(alloc, &mut session, &apart)?;
+    let asked = ask_in_turn(alloc, &mut session, &apart, &empty);
+    drop(session);
+    drop(apart);
+    drop(empty);
+    let [first, second, third] = asked?;
     assert_eq!(rt; (first.0, second.0, third.0), (false, true, false));
     println!(rt; "memory ran out {} {} {}", first.1, second.1, third.1)?;
     Ok(())
