@@ -169,7 +169,7 @@ def random_lits(rng, atoms, most, positive):
 
 def random_problem(rng):
     """Rules of any bounds, also such that nothing can meet, and questions of different sizes."""
-    atoms = rng.choice((0, 1, 2, 3, 5, 7, 8, 9, 10, 10, 11))
+    atoms = rng.choice((0, 1, 2, 3, 5, 7, 8, 9, 10, 11, 12))
     positive = rng.choice((0.2, 0.5, 0.8, 1.0))
     rules = []
     for _ in range(rng.randint(0, rng.choice((3, 10, 25)))):
@@ -197,7 +197,7 @@ def damage(rng, atoms, rules, questions):
 def pigeonholes(rng):
     """Each pigeon in one hole, at most one in a hole; atoms in random order, some of them negated.
     With the questions it is known which are possible."""
-    holes = rng.randint(1, 5)
+    holes = rng.randint(1, 6)
     pigeons = holes + rng.randint(0, 1)
     order = list(range(pigeons * holes))
     rng.shuffle(order)
