@@ -88,8 +88,7 @@ fn offer_of(alloc: Global, state: &State, answers: &[Answer]) -> Result<Offer, N
 {
     let standings = standings_of(alloc, state, answers)?;
     let own = state.clone_in(alloc)?;
-    let offer = Offer::of(alloc, own, standings)?;
-    Ok(offer)
+    Ok(Offer::of(own, standings))
 }
 
 /// How the candidates stand, by the phase.

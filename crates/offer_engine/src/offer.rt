@@ -11,40 +11,33 @@ use draw_tables::Choice;
 use pairing_draw::law_tables_satisfy;
 use std::alloc::Global;
 use std::marker::Model;
-use std::sync::Arc;
 
 /// A state with its offer, exact by its type: all candidates in order, each with a legal table that
-/// extends the moves with its own, or with a refutation of the literals of those moves. Copies of an
-/// offer share its standings. Contracts see a record of `state` and `standings`.
+/// extends the moves with its own, or with a refutation of the literals of those moves. Contracts
+/// see a record of `state` and `standings`.
 #[derive(Drop)]
 pub struct Offer {
     state: State,
-    standings: Arc<Vec<(Choice, Standing)>>,
+    standings: Vec<(Choice, Standing)>,
 }
 
 impl Model for Offer {
     ghost use Rattle.offer_engine.specs.Offers as spec;
-    ghost use Rattle.std.specs.Arc.{arc_value};
 
     ghost Value = { spec.Offer };
 
-    ghost view = { λ o. spec.offer_with o.state (arc_value o.standings).items };
+    ghost view = { λ o. spec.offer_with o.state o.standings.items };
 
-    ghost invariant = { λ o. spec.IsExact (spec.offer_with o.state (arc_value o.standings).items) };
+    ghost invariant = { λ o. spec.IsExact (spec.offer_with o.state o.standings.items) };
 }
 
 impl Offer {
     /// The offer of a state in which the candidates stand so, as is right.
-    pub(crate) fn of(
-        alloc: Global,
-        state: State,
-        standings: Vec<(Choice, Standing)>,
-    ) -> Result<Offer, NoMemory>
+    pub(crate) fn of(state: State, standings: Vec<(Choice, Standing)>) -> Offer
         requires { IsExact (offer_with state standings.items) }
-        ensures { IfOk result (λ o. o ≡ offer_with state standings.items) }
+        ensures { result ≡ offer_with state standings.items }
     {
-        let standings = Arc::new(alloc, standings)?;
-        Ok(Offer { state, standings })
+        Offer { state, standings }
     }
 
     /// The state.
@@ -82,11 +75,11 @@ impl Offer {
         Ok(choices)
     }
 
-    /// An equal offer, which shares the standings.
+    /// An equal offer.
     pub fn clone_in(&self, alloc: Global) -> Result<Offer, NoMemory>
         ensures { IfOk result (λ o. o ≡ self.now) }
     {
-        let standings = Arc::try_clone(&self.standings)?;
+        let standings = clone_standings(alloc, self.standings.as_slice())?;
         let state = self.state.clone_in(alloc)?;
         Ok(Offer { state, standings })
     }
@@ -104,4 +97,18 @@ fn offered_of(alloc: Global, standings: &[(Choice, Standing)]) -> Result<Vec<Cho
         choices.push(*choice)?;
     }
     Ok(choices)
+}
+
+/// Equal standings.
+fn clone_standings(
+    alloc: Global,
+    standings: &[(Choice, Standing)],
+) -> Result<Vec<(Choice, Standing)>, NoMemory>
+    ensures { IfOk result (λ v. v.items ≡ standings.now) }
+{
+    let mut copies = Vec::new(alloc);
+    for (choice, standing) in standings {
+        copies.push((*choice, standing.clone_in(alloc)?))?;
+    }
+    Ok(copies)
 }
