@@ -54,12 +54,19 @@ fn first_rules(alloc: Global) -> Result<SharedProblem, NoMemory>
     Ok(Arc::new(alloc, problem)?)
 }
 
+/// Whether each literal is over one of 8 atoms.
+fn are_within_8(lits: &[Lit]) -> bool
+    ensures { result ≡ are_within 8 lits.now }
+{
+    lits.iter().all(|lit| lit.atom.0 < 8)
+}
+
 /// The question of these literals, which are over different ones of 8 atoms.
 fn question_of(alloc: Global, signs: &[Sign]) -> Result<Question, NoMemory>
     ensures { IfOk result (λ q. are_within 8 q ≡ true) }
 {
     let lits = lits_of(alloc, signs)?;
-    if !are_distinct(lits.as_slice()) || !lits.as_slice().iter().all(|lit| lit.atom.0 < 8) {
+    if !are_distinct(lits.as_slice()) || !are_within_8(lits.as_slice()) {
         return Err(NoMemory);
     }
     Ok(Question::new(Lits::new(lits)))
