@@ -37,7 +37,7 @@ def compare(description, program, word, wanted, one_input, kind):
     parser = argparse.ArgumentParser(description=description)
     parser.add_argument("--inputs", type=int, default=5000)
     parser.add_argument("--seed", type=int, default=1)
-    parser.add_argument("--most", type=int, default=6, help="the most pairs or groups of a file; ten and eight at the most")
+    parser.add_argument("--most", type=int, default=6, help="the most pairs or groups of a file; 20 and 8 at the most")
     parser.add_argument("--kinds", nargs="+", choices=KINDS, default=BUILT, help="what draws are made; else those built")
     add_programs(parser)
     words = parser.parse_args()

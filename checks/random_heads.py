@@ -1,5 +1,7 @@
 """Random heads of draw files: good ones of each kind, and damage to them."""
 
+import string
+
 LETTERS = "ABCDEFGHIJ"
 
 
@@ -25,10 +27,11 @@ def some_tags(rng, tags):
 def pairing_head(rng, most):
     """A pairing that may be dense with forbidden pairs."""
     size = rng.randint(1, most)
-    tags = [f"T{k}" for k in range(rng.randint(1, 8))]
+    large = size > len(LETTERS)
+    tags = [f"T{k}" for k in range(rng.randint(*((size // 2, 2 * size) if large else (1, 8))))]
     teams = []
     for pot in (1, 2):
-        letters = rng.sample(LETTERS, size)
+        letters = rng.sample(string.ascii_uppercase if large else LETTERS, size)
         for number in range(size):
             code = f"{'W' if pot == 1 else 'R'}{number:02}"
             teams.append({"code": code, "pot": pot, "tags": some_tags(rng, tags), "group": letters[number]})
@@ -172,5 +175,5 @@ def nearly(rng, head):
     elif isinstance(value, str) and value:
         codes = [item["code"] for item in objects_of(head) if isinstance(item.get("code"), str)]
         target[name] = rng.choice((value.lower(), value[:-1], value + "X", chr(ord(value[0]) + 1) + value[1:], *codes[:1]))
-    elif name in ("tags", "pairs") and isinstance(value, list) and value:
+    elif name in ("tags", "pairs") and isinstance(value, list) and value and value[0] and isinstance(value[0], (str, list)):
         target[name] = rng.choice((value + value, value[:1] + ["T9"], [value[0]], [value[0][::-1]], [[value[0][0]] * 2]))

@@ -71,7 +71,7 @@ def one_input(rng, kind, most):
     if rng.random() < 0.1:
         return text + end
     file = file_of(text)
-    most_lines = 30 if kind == "pairing" or not file else 2 * len(file.teams) + 8
+    most_lines = max(30, len(file.teams) + 10) if file and kind == "pairing" else 2 * len(file.teams) + 8 if file else 30
     count = 5000 if rng.random() < 0.004 else rng.randint(0, most_lines)
     return text + (end if end.endswith(b"\n") else b"\n") + rng.choice((b"--\n", b"--\r\n")) + lines(rng, file, count)
 

@@ -1,5 +1,6 @@
-"""Random count problems and pigeonholes through the built program `solve`, several questions on one
-session, against an independent decision: all assignments are tried, and of pigeonholes it is known.
+"""Random count problems, pigeonholes and whole draws through the built program `solve`, several questions
+on one session, against an independent decision: all assignments are tried, of pigeonholes it is known,
+and of the pairings of a draw it is decided by matching (reference_pairings.py).
 
 Values are compared with rules and question as they are written. Steps are checked by the checker of
 checks/count_problems.py, and by the built program `stepcheck`. Some inputs are damaged, so that they
@@ -8,11 +9,14 @@ are refused.
 
 import argparse
 import collections
+import json
 import pathlib
 import random
 import subprocess
 import sys
 
+import random_heads
+import reference
 from count_problems import damaged_text, failing_hint, line_in, read, refusal_of_rules, text_of
 
 BUILT = pathlib.Path(__file__).resolve().parent.parent / "crates"
@@ -223,6 +227,40 @@ def pigeonholes(rng):
     return (pigeons * holes, rules, [lits for lits, _ in questions]), [known for _, known in questions]
 
 
+def rules_of_pairing(file):
+    """The count rules of a pairing of n runners-up and winners, atom `r * n + w`: one winner for each
+    runner-up, one runner-up for each winner, and no pair that may not meet."""
+    size = len(file.winners)
+    rules = [(1, 1, [(r * size + w, True) for w in range(size)]) for r in range(size)]
+    rules += [(1, 1, [(r * size + w, True) for r in range(size)]) for w in range(size)]
+    for r, runner in enumerate(file.runners):
+        rules += [(0, 0, [(r * size + w, True)]) for w, winner in enumerate(file.winners) if winner not in file.allowed[runner]]
+    return size * size, rules
+
+
+def draw(rng):
+    """A random pairing and a draw of it: of each candidate opponent the question whether it is possible."""
+    file = reference.read_file(json.dumps(random_heads.good_head(rng, "pairing", 20)).encode())
+    atoms, rules = rules_of_pairing(file)
+    matching, paired, questions = file.way, {}, []
+    for runner in rng.sample(file.runners, len(file.runners)):
+        offered = []
+        for winner in [w for w in file.winners if w not in paired.values()]:
+            later = {**paired, runner: winner}
+            lits = [(file.runners.index(r) * len(file.winners) + file.winners.index(w), True) for r, w in later.items()]
+            questions.append((lits, matching.is_completable(later)))
+            offered += [winner] if questions[-1][1] else []
+        if not offered:
+            break
+        paired[runner] = rng.choice(offered)
+    return (atoms, rules, [lits for lits, _ in questions]), [known for _, known in questions]
+
+
+def one_draw(rng, number):
+    problem, known = draw(rng)
+    return text_of(*problem, "q"), known
+
+
 def one_input(rng, number):
     """A text, and which of its questions are possible, where that is known."""
     if number % 20 == 0:
@@ -239,20 +277,28 @@ def one_input(rng, number):
 def main():
     parser = argparse.ArgumentParser()
     parser.add_argument("--problems", type=int, default=2000)
+    parser.add_argument("--draws", type=int, default=0, help="so many whole draws of up to 20 pairs besides")
     parser.add_argument("--seed", type=int, default=1)
     chosen = parser.parse_args()
-    rng = random.Random(chosen.seed)
+    for name, made, number in ("problems", one_input, chosen.problems), ("draws", one_draw, chosen.draws):
+        if number:
+            compare_all(name, made, number, chosen.seed)
+
+
+def compare_all(name, made, most, seed):
+    """Compares so many inputs, and ends the program at the first that differs."""
+    rng = random.Random(seed)
     seen = collections.Counter()
-    for number in range(chosen.problems):
-        text, known = one_input(rng, number)
+    for number in range(most):
+        text, known = made(rng, number)
         try:
             seen += compare(text, known)
         except Wrong as wrong:
-            print(f"problem {number} of seed {chosen.seed}: {wrong}")
+            print(f"number {number} of the {name} of seed {seed}: {wrong}")
             print(text.decode("latin-1"))
             sys.exit(1)
     kinds = ", ".join(f"{count} {kind}" for kind, count in sorted(seen.items()))
-    print(f"{chosen.problems} problems of seed {chosen.seed} agreed: {kinds}")
+    print(f"{most} {name} of seed {seed} agreed: {kinds}")
 
 
 main()

@@ -1,10 +1,15 @@
-"""Pairings: their tables, offers and verdicts, by trying every one-to-one map from runners-up to winners.
+"""Pairings: their tables, offers and verdicts.
 
-Since every table is tried, this covers pairings of up to eight pairs.
+What is possible is found by trying every one-to-one map from runners-up to winners; in files of more
+than eight pairs by matching: opponents are given to the runners-up that are left, one after the other,
+and where none is free those that were given one move along (augmenting paths). reference_rows.py
+compares both ways on small files.
 """
 
 import functools
 import itertools
+
+MOST_TRIED = 8
 
 
 class File:
@@ -26,26 +31,22 @@ class File:
         return frozenset((runner, other)) in self.forbidden
 
     @functools.cached_property
-    def tables(self):
-        """Every legal table, as a map from runners-up to winners."""
-        allowed = {
-            (runner, winner)
+    def allowed(self):
+        """For each runner-up the winners that no rule forbids it, in file order."""
+        return {
+            runner: [w for w in self.winners if not any(self.breaks(rule, runner, w) for rule in (2, 3, 4))]
             for runner in self.runners
-            for winner in self.winners
-            if not any(self.breaks(rule, runner, winner) for rule in (2, 3, 4))
         }
-        return [
-            dict(zip(self.runners, winners))
-            for winners in itertools.permutations(self.winners)
-            if all(pair in allowed for pair in zip(self.runners, winners))
-        ]
+
+    @functools.cached_property
+    def way(self):
+        """What decides whether pairs can be completed."""
+        return Trying(self) if len(self.runners) <= MOST_TRIED else Matching(self)
 
     def any_legal_table(self, rng):
         """The codes of a legal table in file order of the runners-up, or none."""
-        if not self.tables:
-            return None
-        table = rng.choice(self.tables)
-        return [table[runner] for runner in self.runners]
+        table = self.way.any_table(rng)
+        return table and [table[runner] for runner in self.runners]
 
     def read_table(self, line):
         """The codes that a table's text gives, or none where it is no table."""
@@ -65,12 +66,63 @@ class File:
         return None
 
 
+class Trying:
+    """Every legal table of a file, as maps from runners-up to winners."""
+
+    def __init__(self, file):
+        self.tables = [
+            dict(zip(file.runners, winners))
+            for winners in itertools.permutations(file.winners)
+            if all(winner in file.allowed[runner] for runner, winner in zip(file.runners, winners))
+        ]
+
+    def is_completable(self, paired):
+        """Whether some legal table has all these pairs."""
+        return any(paired.items() <= table.items() for table in self.tables)
+
+    def any_table(self, rng):
+        return rng.choice(self.tables) if self.tables else None
+
+
+class Matching:
+    """Opponents for all runners-up of a file, given one after the other."""
+
+    def __init__(self, file):
+        self.file = file
+
+    def is_completable(self, paired):
+        """Whether some legal table has all these pairs."""
+        kept = len(set(paired.values())) == len(paired) and all(w in self.file.allowed[r] for r, w in paired.items())
+        return kept and self.matched(paired, self.file.runners) is not None
+
+    def any_table(self, rng):
+        return self.matched({}, rng.sample(self.file.runners, len(self.file.runners)))
+
+    def matched(self, paired, order):
+        """These pairs with an opponent for each other runner-up, or none."""
+        runner_of = {winner: runner for runner, winner in paired.items()}
+        fixed = set(runner_of)
+        for runner in order:
+            if runner not in paired and not self.is_given_one(runner, runner_of, set(fixed)):
+                return None
+        return {runner: winner for winner, runner in runner_of.items()}
+
+    def is_given_one(self, runner, runner_of, seen):
+        """Gives the runner-up an opponent that was not seen, where those that have one can move along."""
+        for winner in self.file.allowed[runner]:
+            if winner not in seen:
+                seen.add(winner)
+                if winner not in runner_of or self.is_given_one(runner_of[winner], runner_of, seen):
+                    runner_of[winner] = runner
+                    return True
+        return False
+
+
 class State:
     """A file with its drawn and paired teams."""
 
     def __init__(self, file):
         self.file, self.drawn, self.paired = file, [], {}
-        self.left = file.tables
 
     def phase(self):
         if self.drawn and self.drawn[-1] not in self.paired:
@@ -92,9 +144,8 @@ class State:
     def offer(self):
         if self.phase() == "opponent":
             runner = self.drawn[-1]
-            possible = {table[runner] for table in self.left}
-            return [w for w in self.candidates() if w in possible]
-        return self.candidates() if self.left else []
+            return [w for w in self.candidates() if self.file.way.is_completable({**self.paired, runner: w})]
+        return self.candidates() if self.file.way.is_completable(self.paired) else []
 
     def prompt(self):
         """What the next line asks for."""
@@ -107,5 +158,4 @@ class State:
             return f"drawn {code}"
         runner = self.drawn[-1]
         self.paired[runner] = code
-        self.left = [table for table in self.left if table[runner] == code]
         return f"paired {runner} {code}"

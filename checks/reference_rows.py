@@ -17,6 +17,7 @@ import random_heads
 import reference
 import reference_groups
 import reference_group_rows
+import reference_pairings
 from built import BUILT
 from reference_heads import KINDS
 
@@ -221,6 +222,20 @@ def reorder(file, table):
     return {code: table[code] for code in file.codes}
 
 
+def differing_pairs(file, rng, number):
+    """Some pairs of which the two ways say different things, or none."""
+    trying, matching = reference_pairings.Trying(file), reference_pairings.Matching(file)
+    for _ in range(number):
+        start = rng.choice(trying.tables) if trying.tables and rng.random() < 0.7 else None
+        paired = {
+            runner: start[runner] if start and rng.random() < 0.9 else rng.choice(file.winners)
+            for runner in rng.sample(file.runners, rng.randint(0, len(file.runners)))
+        }
+        if trying.is_completable(paired) != matching.is_completable(paired):
+            return paired
+    return None
+
+
 def differing_question(file, rng, number):
     """Some teams with groups and positions of which the two ways say different things, or none."""
     trying, filling = reference_groups.Trying(file), reference_groups.Filling(file)
@@ -242,6 +257,13 @@ def compare_ways(files, seed):
     """The number of small files compared, and of those that are decided differently."""
     rng = random.Random(seed)
     compared = bad = 0
+    while compared < files // 2:
+        head = random_heads.good_head(rng, "pairing", 6)
+        compared += 1
+        paired = differing_pairs(reference.read_file(text_of(head)), rng, 30)
+        if paired is not None:
+            bad += 1
+            print(f"FAILED: two ways to decide differ on {json.dumps(head)}: {paired}")
     while compared < files:
         head = random_heads.good_head(rng, "group", 3)
         file = reference.read_file(text_of(head))
