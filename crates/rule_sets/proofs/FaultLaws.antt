@@ -1,9 +1,8 @@
 -- What bytes are refused for is their first fault.
-use Rattle.std.proofs.Common.{◌≡◌, ℕ, zero, suc, ◌<◌, ◌≤◌, ◌⊎◌, inl, inr, Bool, true, false, List, [], ◌∷◌, map, refl, sym, ap, subst, ◌∙◌, Option, Some, None, Result, Ok, Err, arith}
+use Rattle.std.proofs.Common.{◌≡◌, ℕ, ◌<◌, ◌≤◌, ◌⊎◌, inl, inr, Bool, true, false, List, map, refl, sym, ap, subst, ◌∙◌, Option, Some, None, Result, Ok, Err, arith}
 use Rattle.std.specs.Prelude.{◌↔◌, option_and_then}
 use Rattle.std.specs.List.{All}
 use Rattle.std.specs.Str.{is_utf8}
-use Rattle.std.proofs.lemmas.List.Elements.{All-head, All-tail}
 use Rattle.std.proofs.lemmas.Str.{IsUtf8-from_is_utf8, is_utf8-from_IsUtf8}
 use Rattle.serde_json.specs.Data.{Data}
 use Rattle.serde_json.specs.Read.{read}
@@ -16,65 +15,73 @@ use Rattle.team_files.specs.declared.team.Team.{Team}
 use Rattle.team_files.specs.declared.team_id.TeamId.{TeamId}
 use Rattle.team_files.specs.declared.head_pair.HeadPair.{HeadPair}
 use Rattle.team_files.specs.Characters.{is_code}
-use Rattle.team_files.specs.Answers.{after}
+use Rattle.team_files.specs.Answers.{after, unless}
 use Rattle.team_files.specs.Members.{where_true}
 use Rattle.team_files.specs.Teams.{find}
-use Rattle.team_files.specs.Codes.{codes_of, HasCodeAt, AreDifferent}
-use Rattle.team_files.specs.Heads.{IsJson, IsNotJson, Head, pairs_in, head_fields, teams_from, head_of}
-use Rattle.team_files.specs.Faults.{codes_in, kind_at, Holds, order_of, IsFirstFault}
-use Rattle.team_files.proofs.CodeLaws.{finds_by_code, tells_same_code}
-use Rattle.team_files.proofs.FaultSteps.{FieldsTold, fields_told, CodesTold, codes_told}
+use Rattle.team_files.specs.Codes.{codes_of}
+use Rattle.team_files.specs.Heads.{IsJson, IsNotJson, Head, limits_in, pairs_in, places_in, head_fields, teams_from, head_of}
+use Rattle.team_files.specs.Faults.{codes_in, team_pots, team_tags, kind_at, Holds, order_of, IsFirstFault}
+use Rattle.team_files.proofs.CodeLaws.{finds_by_code}
+use Rattle.team_files.proofs.FaultSteps.{MembersTold, FieldsTold, fields_told, CodesTold, codes_told}
 use Rattle.team_files.proofs.FaultTable.{kind_read, tells_first_fault}
 use Rattle.team_files.proofs.HeadLaws.{parts, field_parts}
+use Rattle.rule_sets.specs.declared.limit.Limit.{Limit}
 use Rattle.rule_sets.specs.declared.pair.Pair.{Pair}
-use Rattle.rule_sets.specs.Files.{DrawFile, team_named, pairs_from, limits_of, places_of, file_with, file_of, IsFileOf, IsFileFault}
+use Rattle.rule_sets.specs.declared.place.Place.{Place}
+use Rattle.rule_sets.specs.Files.{DrawFile, unknown_tag_from, limit_of, team_named, pairs_from, limits_of, places_of, file_with, file_of, IsFileOf, IsFileFault}
 use Rattle.rule_sets.specs.Forms.{HasCode}
 use Rattle.rule_sets.specs.BadPairs.{NamesNoPair, IsFirstBadPair}
-use Rattle.rule_sets.specs.FileFaults.{IsNoCode, NamesNoTwoCodes, IsFirstWrongPair, HasBadPair, HoldsOfValue, HoldsOfBytes, IsFirstFaultOfBytes, TellsFirstFaultOfBytes}
-use Rattle.rule_sets.proofs.FileForms.{all_coded}
-use Rattle.rule_sets.proofs.NamedPairLaws.{named_has}
+use Rattle.rule_sets.specs.UnknownTags.{IsFirstUnknown, tags_of}
+use Rattle.rule_sets.specs.BadPlaces.{Setting, IsFirstWrongPlace, setting_of, TellsFirstBadPlace}
+use Rattle.rule_sets.specs.FileFaults.{HasUnknownTag, HasBadPlace, setting_in, IsNoCode, NamesNoTwoCodes, IsFirstWrongPair, HasBadPair, HoldsOfValue, HoldsOfBytes, IsFirstFaultOfBytes, TellsFirstFaultOfBytes}
+use Rattle.rule_sets.proofs.CodedTeams.{AreCoded, are_coded, code_there, named_has}
+use Rattle.rule_sets.proofs.FileForms.{file_parts}
+use Rattle.rule_sets.proofs.UnknownTagLaws.{tells_first_unknown_tag}
+use Rattle.rule_sets.proofs.BadPlaceLaws.{first_bad_place}
 use Rattle.rule_sets.proofs.PairLaws.{tells_first_bad_pair}
 
--- ---- a head has the codes and the pairs of its value
+-- ---- a head has what its value says
 
-codes_of_fields : (d : Data) (r : Result HeadFields FileFault) (wrong : Option FileFault) (fields : HeadFields) → FieldsTold r wrong d → r ≡ Ok fields → map (λ f. f.code) fields.teams ≡ codes_in d
-codes_of_fields d (Ok x) wrong fields told e = let same : x ≡ fields = cc in subst (λ (y : HeadFields). map (λ f. f.code) y.teams ≡ codes_in d) same told.2
-codes_of_fields d (Err g) wrong fields told e = cc
+-- What a head has of its value.
+record HeadTold (d : Data) (head : Head) : Type 0 where
+  kind : kind_at d ≡ head.kind
+  setting : setting_of head ≡ setting_in d
+  tags : tags_of head.teams ≡ team_tags d
+  limits : limits_in head.kind d ≡ Ok head.limits
+  pairs : pairs_in d ≡ Some head.pairs
+  places : places_in head.kind d ≡ Ok head.places
 
-codes_of_teams : (r : Result (List Team) FileFault) (bad : Option FileFault) (fs : List TeamFields) (ts : List Team)
-    → CodesTold r bad fs → r ≡ Ok ts → codes_of ts ≡ map (λ f. f.code) fs
-codes_of_teams (Ok x) bad fs ts told e = let same : x ≡ ts = cc in subst (λ (y : List Team). codes_of y ≡ map (λ f. f.code) fs) same told.1
-codes_of_teams (Err g) bad fs ts told e = cc
+members_of_fields : (d : Data) (r : Result HeadFields FileFault) (wrong : Option FileFault) (fields : HeadFields) → FieldsTold r wrong d → r ≡ Ok fields → MembersTold d fields
+members_of_fields d (Ok x) wrong fields told e = let same : x ≡ fields = cc in subst (MembersTold d) same told.1
+members_of_fields d (Err g) wrong fields told e = cc
 
-codes_are : (d : Data) (head : Head) → head_of d ≡ Ok head → codes_of head.teams ≡ codes_in d
-codes_are d head e =
+teams_of_fields : (r : Result (List Team) FileFault) (bad : Option FileFault) (fs : List TeamFields) (ts : List Team) → CodesTold r bad fs → r ≡ Ok ts → CodesTold (Ok ts) bad fs
+teams_of_fields (Ok x) bad fs ts told e = let same : x ≡ ts = cc in subst (λ (y : List Team). CodesTold (Ok y) bad fs) same told
+teams_of_fields (Err g) bad fs ts told e = cc
+
+head_told : (d : Data) (head : Head) → head_of d ≡ Ok head → HeadTold d head
+head_told d head e =
     let p = parts d head e in
-    let read : head_fields (kind_at d) d ≡ Ok p.1 = subst (λ kind. head_fields kind d ≡ Ok p.1) (sym (kind_read d p.0 p.3.kind_is)) p.3.fields_are in
-    let fields = codes_of_fields d (head_fields (kind_at d) d) _ p.1 (fields_told d) read in
-    let teams = codes_of_teams (teams_from 0 p.1.teams) _ p.1.teams p.2 (codes_told p.1.teams) p.3.teams_are in
-    ap (λ (x : Head). codes_of x.teams) (sym p.3.whole) ∙ teams ∙ fields
-
-pairs_are : (d : Data) (head : Head) → head_of d ≡ Ok head → pairs_in d ≡ Some head.pairs
-pairs_are d head e =
-    let p = parts d head e in
-    (field_parts p.0 d p.1 p.3.fields_are).1.pairs_are ∙ ap (λ (x : Head). Some x.pairs) p.3.whole
-
--- each team has a code, and no two have one
-abbrev AreCoded : List Team → Type 0
-AreCoded teams = All HasCode teams × AreDifferent (codes_of teams)
-
-are_coded : (d : Data) (head : Head) → head_of d ≡ Ok head → AreCoded head.teams
-are_coded d head e =
-    let p = parts d head e in
-    let teams : p.2 ≡ head.teams = ap (λ (x : Head). x.teams) p.3.whole in
-    subst AreCoded teams (all_coded 0 p.1.teams p.2 p.3.teams_are, (tells_same_code.none p.2).0 p.3.distinct)
+    let kind = kind_read d p.0 p.3.kind_is in
+    let read : head_fields (kind_at d) d ≡ Ok p.1 = subst (λ k. head_fields k d ≡ Ok p.1) (sym kind) p.3.fields_are in
+    let members = members_of_fields d (head_fields (kind_at d) d) _ p.1 (fields_told d) read in
+    let teams = teams_of_fields (teams_from 0 p.1.teams) _ p.1.teams p.2 (codes_told p.1.teams) p.3.teams_are in
+    let fields = (field_parts p.0 d p.1 p.3.fields_are).1 in
+    let codes_are : codes_of p.2 ≡ codes_in d = teams.1 ∙ members.codes in
+    let pots_are : map (λ t. t.pot) p.2 ≡ team_pots d = teams.2 ∙ members.team_pots in
+    subst
+    (HeadTold d)
+    p.3.whole
+    (record {
+      kind = kind;
+      setting = rw codes_are (rw pots_are (rw members.groups (rw members.pots refl)));
+      tags = teams.3 ∙ members.team_tags;
+      limits = fields.limits_are;
+      pairs = fields.pairs_are;
+      places = fields.places_are;
+    })
 
 -- ---- a pair names two teams exactly where it names two codes
-
-code_there : (teams : List Team) (k : ℕ) (text : List ℕ) → All HasCode teams → HasCodeAt (codes_of teams) k text → is_code text ≡ true
-code_there [] k text all at = cc
-code_there (t ∷ ts) zero text all at = let same : t.code ≡ text = cc in subst (λ c. is_code c ≡ true) same (All-head HasCode t ts all)
-code_there (t ∷ ts) (suc k) text all at = code_there ts k text (All-tail HasCode t ts all) at
 
 -- a text names no team exactly where it is the code of none
 none_named : (teams : List Team) (text : List ℕ) → All HasCode teams → (team_named teams text ≡ None) ↔ IsNoCode (codes_of teams) text
@@ -122,39 +129,104 @@ bad_of_wrong teams pairs place coded h = record {
   first = λ k other lt at bad. h.first k other lt at (to_codes teams other coded bad);
 }
 
--- ---- the first bad pair of a head is that of its value
+-- ---- what is looked up in a head is what holds of its value
 
-has_bad : (d : Data) (head : Head) (place : ℕ) → head_of d ≡ Ok head → IsFirstBadPair head.teams head.pairs place → HasBadPair d place
-has_bad d head place e h =
-    let wrong = wrong_of_bad head.teams head.pairs place (are_coded d head e) h in
-    (head.pairs, pairs_are d head e, subst (λ cs. IsFirstWrongPair cs head.pairs place) (codes_are d head e) wrong)
+codes_are : (d : Data) (head : Head) → head_of d ≡ Ok head → codes_of head.teams ≡ codes_in d
+codes_are d head e = ap (λ (s : Setting). s.codes) (head_told d head e).setting
 
-bad_in_head : (d : Data) (head : Head) (place : ℕ) → head_of d ≡ Ok head → HasBadPair d place → IsFirstBadPair head.teams head.pairs place
-bad_in_head d head place e h =
-    let both : Some h.0 ≡ Some head.pairs = sym h.1 ∙ pairs_are d head e in
-    let pairs : h.0 ≡ head.pairs = cc in
-    let wrong = subst (λ ps. IsFirstWrongPair (codes_in d) ps place) pairs h.2 in
-    bad_of_wrong head.teams head.pairs place (are_coded d head e) (subst (λ cs. IsFirstWrongPair cs head.pairs place) (sym (codes_are d head e)) wrong)
+module _ (d : Data) (head : Head) (e : head_of d ≡ Ok head) where
+  has : HeadTold d head
+  has = head_told d head e
 
--- only the pairs of a pairing can be refused
-file_refused : (head : Head) (fault : FileFault) → (file_of head ≡ Err fault) ↔ (pairs_from head.teams 0 head.pairs ≡ Err fault)
-file_refused head fault = go head.kind (pairs_from head.teams 0 head.pairs)
-  where
-    go : (kind : Kind) (r : Result (List Pair) FileFault)
-        → (after (limits_of kind head) (λ limits. after r (λ pairs. after (places_of kind head) (λ places. Ok (file_with head limits pairs places)))) ≡ Err fault) ↔ (r ≡ Err fault)
-    go Kind.Pairing (Ok pairs) = ((λ e. cc), λ e. cc)
-    go Kind.Pairing (Err f) = ((λ e. let same : f ≡ fault = cc in ap (λ x. Err x) same), λ e. let same : f ≡ fault = cc in ap (λ x. Err x) same)
+  -- ---- tags
 
--- a head has no file exactly where its value has a bad pair
-refused_by_pair : (d : Data) (head : Head) (fault : FileFault) → head_of d ≡ Ok head → file_of head ≡ Err fault → (place : ℕ) × (fault ≡ FileFault.BadPair place) × HasBadPair d place
-refused_by_pair d head fault e h =
-    let t = (tells_first_bad_pair head.teams head.pairs fault).0 ((file_refused head fault).0 h) in
-    (t.0, t.1, has_bad d head t.0 e t.2)
+  abbrev TagTold : FileFault → Type 0
+  TagTold fault = (place : ℕ) × (fault ≡ FileFault.UnknownTag place) × HasUnknownTag d place
 
-pair_refuses : (d : Data) (head : Head) (place : ℕ) → head_of d ≡ Ok head → HasBadPair d place → file_of head ≡ Err (FileFault.BadPair place)
-pair_refuses d head place e h =
-    let fault = FileFault.BadPair place in
-    (file_refused head fault).1 ((tells_first_bad_pair head.teams head.pairs fault).1 (place, refl, bad_in_head d head place e h))
+  tag_told : (fault : FileFault) → (limits_of head.kind head ≡ Err fault) ↔ TagTold fault
+  tag_told fault = go head.kind refl
+    where
+      inner : (o : Option FileFault) → unless o (Ok (map limit_of head.limits)) ≡ Err fault → o ≡ Some fault
+      inner None f = cc
+      inner (Some g) f = cc
+
+      go : (kind : Kind) → head.kind ≡ kind → (limits_of kind head ≡ Err fault) ↔ TagTold fault
+      go Kind.Pairing is = ((λ f. cc), λ t. let clash = sym is ∙ sym has.kind ∙ t.2.0 in cc)
+      go Kind.Group is = (there, back)
+        where
+          named : kind_at d ≡ Kind.Group
+          named = has.kind ∙ is
+
+          read : limits_in Kind.Group d ≡ Ok head.limits
+          read = subst (λ k. limits_in k d ≡ Ok head.limits) is has.limits
+
+          there : limits_of Kind.Group head ≡ Err fault → TagTold fault
+          there f =
+              let t = (tells_first_unknown_tag head.limits head.teams fault).0 (inner (unknown_tag_from head.limits 0 head.teams) f) in
+              (t.0, t.1, (named, (head.limits, read, subst (λ ls. IsFirstUnknown head.limits ls t.0) has.tags t.2)))
+
+          back : TagTold fault → limits_of Kind.Group head ≡ Err fault
+          back t =
+              let both : Ok t.2.1.0 ≡ Ok head.limits = sym t.2.1.1 ∙ read in
+              let same : t.2.1.0 ≡ head.limits = cc in
+              let holds = subst (λ ls. IsFirstUnknown ls (tags_of head.teams) t.0) same (subst (λ ts. IsFirstUnknown t.2.1.0 ts t.0) (sym has.tags) t.2.1.2) in
+              rw ((tells_first_unknown_tag head.limits head.teams fault).1 (t.0, t.1, holds)) refl
+
+  -- ---- pairs
+
+  abbrev PairTold : FileFault → Type 0
+  PairTold fault = (place : ℕ) × (fault ≡ FileFault.BadPair place) × HasBadPair d place
+
+  pair_told : (fault : FileFault) → (pairs_from head.teams 0 head.pairs ≡ Err fault) ↔ PairTold fault
+  pair_told fault = (there, back)
+    where
+      there : pairs_from head.teams 0 head.pairs ≡ Err fault → PairTold fault
+      there f =
+          let t = (tells_first_bad_pair head.teams head.pairs fault).0 f in
+          let wrong = wrong_of_bad head.teams head.pairs t.0 (are_coded d head e) t.2 in
+          (t.0, t.1, (head.pairs, has.pairs, subst (λ cs. IsFirstWrongPair cs head.pairs t.0) (codes_are d head e) wrong))
+
+      back : PairTold fault → pairs_from head.teams 0 head.pairs ≡ Err fault
+      back t =
+          let both : Some t.2.0 ≡ Some head.pairs = sym t.2.1 ∙ has.pairs in
+          let same : t.2.0 ≡ head.pairs = cc in
+          let wrong = subst (λ ps. IsFirstWrongPair (codes_in d) ps t.0) same t.2.2 in
+          let bad = bad_of_wrong head.teams head.pairs t.0 (are_coded d head e) (subst (λ cs. IsFirstWrongPair cs head.pairs t.0) (sym (codes_are d head e)) wrong) in
+          (tells_first_bad_pair head.teams head.pairs fault).1 (t.0, t.1, bad)
+
+  -- ---- places
+
+  abbrev PlaceTold : FileFault → Type 0
+  PlaceTold fault = (place : ℕ) × (fault ≡ FileFault.BadPlace place) × HasBadPlace d place
+
+  place_told : (fault : FileFault) → (places_of head.kind head ≡ Err fault) ↔ PlaceTold fault
+  place_told fault = go head.kind refl
+    where
+      go : (kind : Kind) → head.kind ≡ kind → (places_of kind head ≡ Err fault) ↔ PlaceTold fault
+      go Kind.Pairing is = ((λ f. cc), λ t. let clash = sym is ∙ sym has.kind ∙ t.2.0 in cc)
+      go Kind.Group is = (there, back)
+        where
+          named : kind_at d ≡ Kind.Group
+          named = has.kind ∙ is
+
+          read : places_in Kind.Group d ≡ Ok head.places
+          read = subst (λ k. places_in k d ≡ Ok head.places) is has.places
+
+          there : places_of Kind.Group head ≡ Err fault → PlaceTold fault
+          there f =
+              let t = (first_bad_place head (are_coded d head e) fault).0 f in
+              (t.0, t.1, (named, (head.places, read, subst (λ s. IsFirstWrongPlace s head.places t.0) has.setting t.2)))
+
+          back : PlaceTold fault → places_of Kind.Group head ≡ Err fault
+          back t =
+              let both : Ok t.2.1.0 ≡ Ok head.places = sym t.2.1.1 ∙ read in
+              let same : t.2.1.0 ≡ head.places = cc in
+              let wrong = subst (λ ps. IsFirstWrongPlace (setting_in d) ps t.0) same t.2.1.2 in
+              (first_bad_place head (are_coded d head e) fault).1 (t.0, t.1, subst (λ s. IsFirstWrongPlace s head.places t.0) (sym has.setting) wrong)
+
+-- looking up the places refuses exactly the first wrong one
+pub tells_first_bad_place : TellsFirstBadPlace
+tells_first_bad_place head fault read = first_bad_place head (are_coded read.0 head read.1) fault
 
 -- ---- the first fault of a value
 
@@ -165,27 +237,29 @@ IsFirstOfValue d fault = HoldsOfValue d fault × ((other : FileFault) → HoldsO
 abbrev IsRefusedFor : Data → FileFault → Type 0
 IsRefusedFor d fault = (head_of d ≡ Err fault) ⊎ ((head : Head) × (head_of d ≡ Ok head) × (file_of head ≡ Err fault))
 
--- a fault of the head is told before one of its pairs
-before_pairs : (d : Data) (fault : FileFault) → Holds d fault → order_of fault < 11
-before_pairs d FileFault.NotJson h = absurd h
-before_pairs d FileFault.NotObject h = omega arith
-before_pairs d (FileFault.KindUnknown text) h = omega arith
-before_pairs d (FileFault.FieldMissing Field.Kind) h = omega arith
-before_pairs d (FileFault.FieldMissing member) h = omega arith
-before_pairs d (FileFault.FieldWrong Field.Kind) h = omega arith
-before_pairs d (FileFault.FieldWrong member) h = omega arith
-before_pairs d (FileFault.TooMany what number) h = omega arith
-before_pairs d (FileFault.BadCode place) h = omega arith
-before_pairs d (FileFault.SameCode code) h = omega arith
-before_pairs d (FileFault.PotSize pot number) h = omega arith
-before_pairs d (FileFault.UnknownTag place) h = absurd h
-before_pairs d (FileFault.BadPair place) h = absurd h
-before_pairs d (FileFault.BadPlace place) h = absurd h
-before_pairs d FileFault.NoMemory h = absurd h
-before_pairs d FileFault.KindNotBuilt h = omega arith
+-- a fault of the head is told before what is looked up
+before_looked_up : (d : Data) (fault : FileFault) → Holds d fault → order_of fault < 10
+before_looked_up d FileFault.NotJson h = absurd h
+before_looked_up d FileFault.NotObject h = omega arith
+before_looked_up d (FileFault.KindUnknown text) h = omega arith
+before_looked_up d (FileFault.FieldMissing Field.Kind) h = omega arith
+before_looked_up d (FileFault.FieldMissing member) h = omega arith
+before_looked_up d (FileFault.FieldWrong Field.Kind) h = omega arith
+before_looked_up d (FileFault.FieldWrong member) h = omega arith
+before_looked_up d (FileFault.TooMany what number) h = omega arith
+before_looked_up d (FileFault.BadCode place) h = omega arith
+before_looked_up d (FileFault.SameCode code) h = omega arith
+before_looked_up d (FileFault.PotSize pot number) h = omega arith
+before_looked_up d (FileFault.UnknownTag place) h = absurd h
+before_looked_up d (FileFault.BadPair place) h = absurd h
+before_looked_up d (FileFault.BadPlace place) h = absurd h
+before_looked_up d FileFault.NoMemory h = absurd h
+before_looked_up d FileFault.KindNotBuilt h = omega arith
 
 of_value : (d : Data) (fault : FileFault) → Holds d fault → HoldsOfValue d fault
+of_value d (FileFault.UnknownTag place) h = absurd h
 of_value d (FileFault.BadPair place) h = absurd h
+of_value d (FileFault.BadPlace place) h = absurd h
 of_value d fault h = h
 
 first_of_head : (d : Data) (fault : FileFault) → head_of d ≡ Err fault → IsFirstOfValue d fault
@@ -195,33 +269,136 @@ first_of_head d fault e = (of_value d fault t.holds, by)
     t = (tells_first_fault.fault d fault).0 e
 
     by : (other : FileFault) → HoldsOfValue d other → order_of fault ≤ order_of other
-    by (FileFault.BadPair place) h = let lt = before_pairs d fault t.holds in omega (arith, lt)
+    by (FileFault.UnknownTag place) h = let lt = before_looked_up d fault t.holds in omega (arith, lt)
+    by (FileFault.BadPair place) h = let lt = before_looked_up d fault t.holds in omega (arith, lt)
+    by (FileFault.BadPlace place) h = let lt = before_looked_up d fault t.holds in omega (arith, lt)
     by other h = t.first other h
 
-first_of_pairs : (d : Data) (head : Head) (fault : FileFault) → head_of d ≡ Ok head → file_of head ≡ Err fault → IsFirstOfValue d fault
-first_of_pairs d head fault e h =
-    let t = refused_by_pair d head fault e h in
-    let first : IsFirstOfValue d (FileFault.BadPair t.0) = (t.2, by t.0) in
-    subst (IsFirstOfValue d) (sym t.1) first
-  where
-    by : (place : ℕ) (other : FileFault) → HoldsOfValue d other → order_of (FileFault.BadPair place) ≤ order_of other
-    by place (FileFault.BadPair k) b = omega arith
-    by place other b = absurd ((tells_first_fault.head d).0 (head, e) other b)
+-- what holds of the value of a head, by the steps that found no fault
+module _ (d : Data) (head : Head) (e : head_of d ≡ Ok head) where
+  no_head_fault : (fault : FileFault) → ¬ Holds d fault
+  no_head_fault = (tells_first_fault.head d).0 (head, e)
+
+  first_tag : (place : ℕ) → HasUnknownTag d place → IsFirstOfValue d (FileFault.UnknownTag place)
+  first_tag place holds = (holds, by)
+    where
+      by : (other : FileFault) → HoldsOfValue d other → 10 ≤ order_of other
+      by (FileFault.UnknownTag k) h = omega arith
+      by (FileFault.BadPair k) h = omega arith
+      by (FileFault.BadPlace k) h = omega arith
+      by other h = absurd (no_head_fault other h)
+
+  first_pair : (place : ℕ) → ((k : ℕ) → ¬ HasUnknownTag d k) → HasBadPair d place → IsFirstOfValue d (FileFault.BadPair place)
+  first_pair place tags holds = (holds, by)
+    where
+      by : (other : FileFault) → HoldsOfValue d other → 11 ≤ order_of other
+      by (FileFault.UnknownTag k) h = absurd (tags k h)
+      by (FileFault.BadPair k) h = omega arith
+      by (FileFault.BadPlace k) h = omega arith
+      by other h = absurd (no_head_fault other h)
+
+  first_place : (place : ℕ) → ((k : ℕ) → ¬ HasUnknownTag d k) → ((k : ℕ) → ¬ HasBadPair d k) → HasBadPlace d place → IsFirstOfValue d (FileFault.BadPlace place)
+  first_place place tags pairs holds = (holds, by)
+    where
+      by : (other : FileFault) → HoldsOfValue d other → 12 ≤ order_of other
+      by (FileFault.UnknownTag k) h = absurd (tags k h)
+      by (FileFault.BadPair k) h = absurd (pairs k h)
+      by (FileFault.BadPlace k) h = omega arith
+      by other h = absurd (no_head_fault other h)
+
+  no_tag : (limits : List Limit) → limits_of head.kind head ≡ Ok limits → (k : ℕ) → ¬ HasUnknownTag d k
+  no_tag limits l k = λ holds. let clash = sym l ∙ (tag_told d head e (FileFault.UnknownTag k)).1 (k, refl, holds) in cc
+
+  no_pair : (pairs : List Pair) → pairs_from head.teams 0 head.pairs ≡ Ok pairs → (k : ℕ) → ¬ HasBadPair d k
+  no_pair pairs p k = λ holds. let clash = sym p ∙ (pair_told d head e (FileFault.BadPair k)).1 (k, refl, holds) in cc
+
+  no_place : (places : List Place) → places_of head.kind head ≡ Ok places → (k : ℕ) → ¬ HasBadPlace d k
+  no_place places q k = λ holds. let clash = sym q ∙ (place_told d head e (FileFault.BadPlace k)).1 (k, refl, holds) in cc
+
+  -- what follows the limits, and the pairs
+  abbrev behind_pairs : List Limit → List Pair → Result (List Place) FileFault → Result DrawFile FileFault
+  behind_pairs limits pairs r = after r (λ places. Ok (file_with head limits pairs places))
+
+  abbrev behind_limits : List Limit → Result (List Pair) FileFault → Result DrawFile FileFault
+  behind_limits limits r = after r (λ pairs. behind_pairs limits pairs (places_of head.kind head))
+
+  -- what a file is refused for is the first fault of the value
+  first_of_file : (fault : FileFault) → file_of head ≡ Err fault → IsFirstOfValue d fault
+  first_of_file fault refused = by_tags (limits_of head.kind head) refl refused
+    where
+      by_places : (limits : List Limit) (pairs : List Pair) → limits_of head.kind head ≡ Ok limits → pairs_from head.teams 0 head.pairs ≡ Ok pairs
+          → (r : Result (List Place) FileFault) → places_of head.kind head ≡ r → behind_pairs limits pairs r ≡ Err fault → IsFirstOfValue d fault
+      by_places limits pairs l p (Ok places) q f = cc
+      by_places limits pairs l p (Err g) q f =
+          let same : g ≡ fault = cc in
+          let t = (place_told d head e g).0 q in
+          subst (IsFirstOfValue d) (sym t.1 ∙ same) (first_place t.0 (no_tag limits l) (no_pair pairs p) t.2)
+
+      by_pairs : (limits : List Limit) → limits_of head.kind head ≡ Ok limits
+          → (r : Result (List Pair) FileFault) → pairs_from head.teams 0 head.pairs ≡ r → behind_limits limits r ≡ Err fault → IsFirstOfValue d fault
+      by_pairs limits l (Ok pairs) p f = by_places limits pairs l p (places_of head.kind head) refl f
+      by_pairs limits l (Err g) p f =
+          let same : g ≡ fault = cc in
+          let t = (pair_told d head e g).0 p in
+          subst (IsFirstOfValue d) (sym t.1 ∙ same) (first_pair t.0 (no_tag limits l) t.2)
+
+      by_tags : (r : Result (List Limit) FileFault) → limits_of head.kind head ≡ r
+          → after r (λ limits. behind_limits limits (pairs_from head.teams 0 head.pairs)) ≡ Err fault → IsFirstOfValue d fault
+      by_tags (Ok limits) l f = by_pairs limits l (pairs_from head.teams 0 head.pairs) refl f
+      by_tags (Err g) l f =
+          let same : g ≡ fault = cc in
+          let t = (tag_told d head e g).0 l in
+          subst (IsFirstOfValue d) (sym t.1 ∙ same) (first_tag t.0 t.2)
+
+  -- and the first fault of the value is what its file is refused for, where it is looked up
+  tag_refuses : (place : ℕ) → HasUnknownTag d place → file_of head ≡ Err (FileFault.UnknownTag place)
+  tag_refuses place holds = rw ((tag_told d head e (FileFault.UnknownTag place)).1 (place, refl, holds)) refl
+
+  pair_refuses : (place : ℕ) → IsFirstOfValue d (FileFault.BadPair place) → file_of head ≡ Err (FileFault.BadPair place)
+  pair_refuses place h = go (limits_of head.kind head) refl
+    where
+      go : (r : Result (List Limit) FileFault) → limits_of head.kind head ≡ r → file_of head ≡ Err (FileFault.BadPair place)
+      go (Ok limits) l = rw l (rw ((pair_told d head e (FileFault.BadPair place)).1 (place, refl, h.0)) refl)
+      go (Err g) l =
+          let t = (tag_told d head e g).0 l in
+          let le : 11 ≤ 10 = h.1 (FileFault.UnknownTag t.0) t.2 in
+          absurd (omega (arith, le))
+
+  place_refuses : (place : ℕ) → IsFirstOfValue d (FileFault.BadPlace place) → file_of head ≡ Err (FileFault.BadPlace place)
+  place_refuses place h = go (limits_of head.kind head) refl (pairs_from head.teams 0 head.pairs) refl
+    where
+      go : (r : Result (List Limit) FileFault) → limits_of head.kind head ≡ r → (s : Result (List Pair) FileFault) → pairs_from head.teams 0 head.pairs ≡ s
+          → file_of head ≡ Err (FileFault.BadPlace place)
+      go (Ok limits) l (Ok pairs) p = rw l (rw p (rw ((place_told d head e (FileFault.BadPlace place)).1 (place, refl, h.0)) refl))
+      go (Ok limits) l (Err g) p =
+          let t = (pair_told d head e g).0 p in
+          let le : 12 ≤ 11 = h.1 (FileFault.BadPair t.0) t.2 in
+          absurd (omega (arith, le))
+      go (Err g) l s p =
+          let t = (tag_told d head e g).0 l in
+          let le : 12 ≤ 10 = h.1 (FileFault.UnknownTag t.0) t.2 in
+          absurd (omega (arith, le))
 
 first_of_refused : (d : Data) (fault : FileFault) → IsRefusedFor d fault → IsFirstOfValue d fault
 first_of_refused d fault (inl e) = first_of_head d fault e
-first_of_refused d fault (inr h) = first_of_pairs d h.0 fault h.1 h.2
+first_of_refused d fault (inr h) = first_of_file d h.0 h.1 fault h.2
 
-refused_for_first : (d : Data) (fault : FileFault) → IsFirstOfValue d fault → IsRefusedFor d fault
-refused_for_first d (FileFault.BadPair place) h = go (head_of d) refl
+-- what is looked up is told where the value has a head
+looked_up : (d : Data) (fault : FileFault) → 10 ≤ order_of fault → IsFirstOfValue d fault → ((head : Head) → head_of d ≡ Ok head → file_of head ≡ Err fault) → IsRefusedFor d fault
+looked_up d fault late h refuses = go (head_of d) refl
   where
-    go : (r : Result Head FileFault) → head_of d ≡ r → IsRefusedFor d (FileFault.BadPair place)
-    go (Ok head) e = inr (head, e, pair_refuses d head place e h.0)
+    go : (r : Result Head FileFault) → head_of d ≡ r → IsRefusedFor d fault
+    go (Ok head) e = inr (head, e, refuses head e)
     go (Err g) e =
         let t = (tells_first_fault.fault d g).0 e in
-        let lt = before_pairs d g t.holds in
-        let le : 11 ≤ order_of g = h.1 g (of_value d g t.holds) in
-        absurd (omega (arith, lt, le))
+        let lt = before_looked_up d g t.holds in
+        let le = h.1 g (of_value d g t.holds) in
+        absurd (omega (arith, lt, le, late))
+
+refused_for_first : (d : Data) (fault : FileFault) → IsFirstOfValue d fault → IsRefusedFor d fault
+refused_for_first d (FileFault.UnknownTag place) h = looked_up d (FileFault.UnknownTag place) (omega arith) h (λ head e. tag_refuses d head e place h.0)
+refused_for_first d (FileFault.BadPair place) h = looked_up d (FileFault.BadPair place) (omega arith) h (λ head e. pair_refuses d head e place h)
+refused_for_first d (FileFault.BadPlace place) h = looked_up d (FileFault.BadPlace place) (omega arith) h (λ head e. place_refuses d head e place h)
 refused_for_first d fault h = inl ((tells_first_fault.fault d fault).1 (record { holds = h.0; first = λ other k. h.1 other (of_value d other k) }))
 
 -- ---- the first fault of bytes
@@ -275,8 +452,10 @@ none_holds : (bytes : List ℕ) (file : DrawFile) (fault : FileFault) → IsFile
 none_holds bytes file fault f = λ h. by fault (of_their_value bytes f.1.0 fault f.1.1 h)
   where
     by : (other : FileFault) → ¬ HoldsOfValue f.1.0 other
-    by (FileFault.BadPair place) = λ h. let clash = sym f.2 ∙ pair_refuses f.1.0 f.0 place f.1.2 h in cc
-    by other = λ h. (tells_first_fault.head f.1.0).0 (f.0, f.1.2) other h
+    by (FileFault.UnknownTag place) = λ h. let p = file_parts f.0 file f.2 in no_tag f.1.0 f.0 f.1.2 p.0 p.3.limits_are place h
+    by (FileFault.BadPair place) = λ h. let p = file_parts f.0 file f.2 in no_pair f.1.0 f.0 f.1.2 p.1 p.3.pairs_are place h
+    by (FileFault.BadPlace place) = λ h. let p = file_parts f.0 file f.2 in no_place f.1.0 f.0 f.1.2 p.2 p.3.places_are place h
+    by other = λ h. no_head_fault f.1.0 f.0 f.1.2 other h
 
 -- bytes are read as a value or not
 read_or_not : (bytes : List ℕ) → ((d : Data) × IsJson bytes d) ⊎ IsNotJson bytes

@@ -1,12 +1,11 @@
 -- A well-formed draw file has its form: no fault of a head, and none of its pairs, holds of it.
-use Rattle.std.proofs.Common.{◌≡◌, ◌≢◌, ℕ, suc, eqb-true, ◌+◌, ◌<◌, ◌≤◌, Bool, true, false, List, [], ◌∷◌, length, Option, Some, None, Result, Ok, Err, refl, sym, ◌∙◌, ap, subst, arith}
-use Rattle.std.specs.Prelude.{◌==◌, ◌&&◌, not, nat_le, bytes_eq, if◌then◌else◌, option_map, option_and_then, codes}
+use Rattle.std.proofs.Common.{◌≡◌, ◌≢◌, ℕ, suc, eqb-true, ◌+◌, ◌≤◌, Bool, true, false, List, [], ◌∷◌, length, Option, Some, None, Result, Ok, Err, refl, sym, ◌∙◌, ap, subst, arith}
+use Rattle.std.specs.Prelude.{◌==◌, ◌&&◌, not, nat_le, bytes_eq, if◌then◌else◌, option_map, option_and_then, ok_or, codes}
 use Rattle.std.specs.List.{All}
 use Rattle.std.proofs.lemmas.List.Elements.{All-nil, All-cons}
 use Rattle.std.proofs.lemmas.Bool.Decides.{nat_tests}
 use Rattle.std.proofs.lemmas.Slice.Eq.{bytes_eq-Decides}
 use Rattle.serde_json.specs.Data.{Data}
-use Rattle.serde_json.specs.Find.{as_str}
 use Rattle.team_files.specs.declared.kind.Kind.{Kind}
 use Rattle.team_files.specs.declared.fault.FileFault.{FileFault}
 use Rattle.team_files.specs.declared.fault.Field.{Field}
@@ -15,35 +14,26 @@ use Rattle.team_files.specs.declared.fields.HeadFields.{HeadFields}
 use Rattle.team_files.specs.declared.team.Team.{Team}
 use Rattle.team_files.specs.declared.team_id.TeamId.{TeamId}
 use Rattle.team_files.specs.declared.head_pair.HeadPair.{HeadPair}
-use Rattle.team_files.specs.Characters.{is_capital, is_code, is_tag}
+use Rattle.team_files.specs.Characters.{is_capital, is_code}
 use Rattle.team_files.specs.Answers.{after}
-use Rattle.team_files.specs.Members.{where_true, text_in, list_in, number_in, tag_of, tags_of, tags_in, letter_of}
-use Rattle.team_files.specs.Teams.{find_from, find}
-use Rattle.team_files.specs.Heads.{or_wrong, name_in, pot_in, letter_in, team_fields, all_team_fields, too_many_fault, most_teams, team_of, teams_from, pot_size, pot_size_fault, name_of, Head, head_with}
-use Rattle.team_files.proofs.HeadLaws.{gave, Parts, parts, FieldParts, field_parts, few_pairs_of}
-use Rattle.team_files.proofs.CodeLaws.{distinct}
+use Rattle.team_files.specs.Kinds.{kind_text}
+use Rattle.team_files.specs.Members.{lacks, where_true, text_in, list_in, number_in, tag_of, tags_of, tags_in, letter_of}
+use Rattle.team_files.specs.Heads.{fault_of_name, kind_of_text, kind_of, or_wrong, name_in, pot_in, letter_in, team_fields, all_team_fields, team_of, teams_from, pot_size, pot_size_fault, name_of, Head, head_with}
+use Rattle.team_files.proofs.HeadLaws.{gave, Parts, parts, FieldParts, field_parts, are_few}
+use Rattle.team_files.proofs.CodeLaws.{distinct, tells_same_code}
 use Rattle.rule_sets.specs.declared.limit.Limit.{Limit}
 use Rattle.rule_sets.specs.declared.pair.Pair.{Pair}
 use Rattle.rule_sets.specs.declared.place.Place.{Place}
 use Rattle.rule_sets.specs.Files.{DrawFile, file_with, file_of, limits_of, places_of, team_named, pair_at, pair_of, pairs_from}
-use Rattle.rule_sets.specs.Forms.{HasCode, IsInPot, AreTags, HasTags, HasLetter, NamesTwoTeams, HasForm, FilesHaveForm}
+use Rattle.rule_sets.proofs.ReadValues.{passed_test, tag_is}
+use Rattle.rule_sets.proofs.CodedTeams.{all_coded, AreCoded, named_within}
+use Rattle.rule_sets.proofs.GroupForms.{group_form}
+use Rattle.rule_sets.specs.Forms.{IsInPot, AreTags, HasTags, HasLetter, NamesTwoTeams, HasForm, FilesHaveForm}
 
 -- ---- the pots, tags and letters
 
 one_of : (pots n : ℕ) → (nat_le 1 n && nat_le n pots) ≡ true → (1 ≤ n) × (n ≤ pots)
 one_of pots n e = (grind (arith, nat_tests), grind (arith, nat_tests))
-
--- a value that was kept passed the test
-passed_test : {A : Type 0} (test : A → Bool) (value : Option A) (a : A) → option_and_then (λ x. where_true (test x) x) value ≡ Some a → test a ≡ true
-passed_test test None a e = cc
-passed_test test (Some x) a e = go (test x) refl e
-  where
-    go : (b : Bool) → test x ≡ b → where_true b x ≡ Some a → test a ≡ true
-    go true is f = let same : x ≡ a = cc in subst (λ y. test y ≡ true) same is
-    go false is f = cc
-
-tag_is : (d : Data) (tag : List ℕ) → tag_of d ≡ Some tag → is_tag tag ≡ true
-tag_is d tag e = passed_test is_tag (as_str d) tag e
 
 different : (a b : List ℕ) → bytes_eq a b ≡ false → a ≢ b
 different a b e = λ same. let yes = (bytes_eq-Decides a b).1 same in cc
@@ -83,6 +73,7 @@ abbrev IsLetter : Option ℕ → Type 0
 IsLetter letter = (l : ℕ) × (letter ≡ Some l) × (is_capital l ≡ true)
 
 letter_read : (kind : Kind) (d : Data) (letter : Option ℕ) → letter_in kind d ≡ Some letter → kind ≡ Kind.Pairing → IsLetter letter
+letter_read Kind.Group d letter e is = cc
 letter_read Kind.Pairing d letter e is = go (option_and_then letter_of (text_in (codes "group") d)) refl e
   where
     go : (o : Option ℕ) → option_and_then letter_of (text_in (codes "group") d) ≡ o → option_map (λ l. Some l) o ≡ Some letter → IsLetter letter
@@ -162,26 +153,6 @@ module _ (kind : Kind) (pots : ℕ) where
   each_lettered : kind ≡ Kind.Pairing → OfEachRead HasLetter
   each_lettered is i f t read e = subst IsLetter (sym (team_is i f t e).2) (read.letter is)
 
--- ---- the codes
-
-coded : (i : ℕ) (f : TeamFields) (t : Team) → team_of i f ≡ Ok t → HasCode t
-coded i f t e = go (is_code f.code) refl e
-  where
-    go : (b : Bool) → is_code f.code ≡ b
-        → (if b then Ok (record { code = f.code; name = name_of f.code f.name; pot = f.pot; tags = f.tags; group_letter = f.group_letter }) else Err (FileFault.BadCode i)) ≡ Ok t
-        → HasCode t
-    go true is h = let same : f.code ≡ t.code = cc in ap is_code (sym same) ∙ is
-    go false is h = cc
-
--- each team of a head has a code
-pub all_coded : (i : ℕ) (fs : List TeamFields) (ts : List Team) → teams_from i fs ≡ Ok ts → All HasCode ts
-all_coded i [] ts e = let none : ts ≡ [] = cc in rw none (All-nil HasCode)
-all_coded i (f ∷ fs) ts e =
-    let team = gave (team_of i f) _ ts e in
-    let teams = gave (teams_from (i + 1) fs) _ ts team.2 in
-    let all : ts ≡ team.0 ∷ teams.0 = cc in
-    rw all (All-cons HasCode team.0 teams.0 (coded i f team.0 team.1) (all_coded (i + 1) fs teams.0 teams.1))
-
 -- ---- the numbers of teams and of pairs
 
 teams_size : (i : ℕ) (fs : List TeamFields) (ts : List Team) → teams_from i fs ≡ Ok ts → length ts ≡ length fs
@@ -191,9 +162,6 @@ teams_size i (f ∷ fs) ts e =
     let teams = gave (teams_from (i + 1) fs) _ ts team.2 in
     let all : ts ≡ team.0 ∷ teams.0 = cc in
     rw all (ap (λ n. suc n) (teams_size (i + 1) fs teams.0 teams.1))
-
-few_teams : (fields : HeadFields) → too_many_fault fields ≡ None → length fields.teams ≤ most_teams
-few_teams fields e = grind (arith, nat_tests)
 
 -- a file has as many pairs as its head
 pub pairs_size : (teams : List Team) (i : ℕ) (ps : List HeadPair) (pairs : List Pair)
@@ -207,7 +175,7 @@ pairs_size teams i (p ∷ ps) pairs e =
 
 -- ---- the sizes of the pots
 
-sizes : (teams : List Team) → pot_size_fault Kind.Pairing teams ≡ None → (pot_size 1 teams ≢ 0) × (pot_size 2 teams ≡ pot_size 1 teams)
+sizes : (teams : List Team) → pot_size_fault Kind.Pairing 0 2 teams ≡ None → (pot_size 1 teams ≢ 0) × (pot_size 2 teams ≡ pot_size 1 teams)
 sizes teams e = go (pot_size 1 teams) (pot_size 2 teams) e
   where
     go : (a b : ℕ)
@@ -231,23 +199,6 @@ sizes teams e = go (pot_size 1 teams) (pot_size 2 teams) e
         second false false is f = cc
 
 -- ---- the pairs
-
-found_within : (code : List ℕ) (ts : List Team) (i : ℕ) (id : TeamId) → find_from code ts i ≡ Some id → id.0 < i + length ts
-found_within code [] i id e = cc
-found_within code (t ∷ ts) i id e = go (bytes_eq t.code code) e (λ h. found_within code ts (i + 1) id h)
-  where
-    go : (b : Bool)
-        → (if b then Some (record { 0 = i }) else find_from code ts (i + 1)) ≡ Some id
-        → (find_from code ts (i + 1) ≡ Some id → id.0 < (i + 1) + length ts) → id.0 < i + suc (length ts)
-    go true h later = let is : i ≡ id.0 = cc in omega arith
-    go false h later = let lt = later h in omega arith
-
-named_within : (teams : List Team) (text : List ℕ) (id : TeamId) → team_named teams text ≡ Some id → id.0 < length teams
-named_within teams text id e = go (is_code text) e
-  where
-    go : (b : Bool) → option_and_then (λ code. find code teams) (where_true b text) ≡ Some id → id.0 < length teams
-    go true h = let lt = found_within text teams 0 id h in omega arith
-    go false h = cc
 
 unequal : (a b : ℕ) → (a == b) ≡ false → a ≢ b
 unequal a b e same = grind (arith, nat_tests)
@@ -293,16 +244,19 @@ record IsPairingHead (fields : HeadFields) (teams : List Team) : Type 0 where
   sizes : (pot_size 1 teams ≢ 0) × (pot_size 2 teams ≡ pot_size 1 teams)
 
 pairing_head : (kind : Kind) (d : Data) (objects : List Data) (fields : HeadFields) (teams : List Team)
-    → FieldParts kind d objects fields → pot_size_fault kind teams ≡ None → kind ≡ Kind.Pairing → IsPairingHead fields teams
+    → FieldParts kind d objects fields → pot_size_fault kind fields.groups fields.pots teams ≡ None → kind ≡ Kind.Pairing → IsPairingHead fields teams
+pairing_head Kind.Group d objects fields teams p size is = cc
 pairing_head Kind.Pairing d objects fields teams p size is =
     let groups = p.groups_are in
     let pots = p.pots_are in
     record { groups = cc; pots = cc; sizes = sizes teams size }
 
 no_limits : (kind : Kind) (head : Head) (limits : List Limit) → limits_of kind head ≡ Ok limits → kind ≡ Kind.Pairing → limits ≡ []
+no_limits Kind.Group head limits e is = cc
 no_limits Kind.Pairing head limits e is = cc
 
 no_places : (kind : Kind) (head : Head) (places : List Place) → places_of kind head ≡ Ok places → kind ≡ Kind.Pairing → places ≡ []
+no_places Kind.Group head places e is = cc
 no_places Kind.Pairing head places e is = cc
 
 -- the file of a head that has these parts
@@ -316,16 +270,19 @@ form_of d kind fields teams limits pairs places read l h q =
     let objects = of_fields.0 in
     let members = of_fields.1 in
     let is_head = pairing_head kind d objects fields teams members read.sizes in
+    let few = are_few fields read.few in
+    let coded : AreCoded teams = (all_coded 0 fields.teams teams read.teams_are, (tells_same_code.none teams).0 read.distinct) in
     record {
       common = record {
-        few_teams = rw (teams_size 0 fields.teams teams read.teams_are) (few_teams fields read.few);
+        few_teams = rw (teams_size 0 fields.teams teams read.teams_are) few.teams;
         codes = all_coded 0 fields.teams teams read.teams_are;
         distinct_codes = distinct teams read.distinct;
         in_pots = all_have kind fields.pots (IsInPot fields.pots) (each_in_pot kind fields.pots) 0 objects fields.teams teams members.teams_are read.teams_are;
         tags = all_have kind fields.pots HasTags (each_tagged kind fields.pots) 0 objects fields.teams teams members.teams_are read.teams_are;
-        few_pairs = rw (pairs_size teams 0 fields.pairs pairs h) (few_pairs_of fields read.few);
+        few_pairs = rw (pairs_size teams 0 fields.pairs pairs h) few.pairs;
         pairs = all_name teams 0 fields.pairs pairs h;
       };
+      group = λ is. group_form kind is d objects fields teams limits pairs places read members coded l q;
       pairing = λ is. record {
         pots = (is_head is).pots;
         groups = (is_head is).groups;

@@ -1,27 +1,14 @@
 -- The pairs of a file name the teams that have the codes of the head's pairs.
-use Rattle.std.proofs.Common.{◌≡◌, ℕ, zero, suc, ◌+◌, Bool, true, false, List, [], ◌∷◌, slice_get, Some, Ok, subst}
-use Rattle.std.specs.Prelude.{option_and_then}
+use Rattle.std.proofs.Common.{◌≡◌, ℕ, zero, suc, ◌+◌, List, [], ◌∷◌, slice_get, Some, Ok, subst}
 use Rattle.team_files.specs.declared.head_pair.HeadPair.{HeadPair}
 use Rattle.team_files.specs.declared.team.Team.{Team}
-use Rattle.team_files.specs.declared.team_id.TeamId.{TeamId}
-use Rattle.team_files.specs.Characters.{is_code}
-use Rattle.team_files.specs.Codes.{codes_of, HasCodeAt}
-use Rattle.team_files.specs.Members.{where_true}
-use Rattle.team_files.specs.Teams.{find}
-use Rattle.team_files.proofs.CodeLaws.{stands}
+use Rattle.team_files.specs.Codes.{codes_of}
 use Rattle.team_files.proofs.HeadLaws.{gave}
 use Rattle.rule_sets.specs.declared.pair.Pair.{Pair}
 use Rattle.rule_sets.specs.Files.{team_named, pair_of, pairs_from}
 use Rattle.rule_sets.specs.NamedPairs.{NamesCodes, HasPairsOf, FilesHavePairs}
+use Rattle.rule_sets.proofs.CodedTeams.{named_has}
 use Rattle.rule_sets.proofs.FileForms.{pair_is, pairs_size, file_parts}
-
--- the team that a text names has it as its code
-pub named_has : (teams : List Team) (text : List ℕ) (id : TeamId) → team_named teams text ≡ Some id → HasCodeAt (codes_of teams) id.0 text
-named_has teams text id e = go (is_code text) e
-  where
-    go : (b : Bool) → option_and_then (λ code. find code teams) (where_true b text) ≡ Some id → HasCodeAt (codes_of teams) id.0 text
-    go true h = stands text teams id h
-    go false h = cc
 
 names_codes : (teams : List Team) (i : ℕ) (named : HeadPair) (pair : Pair) → pair_of teams i named ≡ Ok pair → NamesCodes (codes_of teams) named pair
 names_codes teams i named pair e =

@@ -5,11 +5,15 @@
 #![tactic(auto)]
 
 mod draw_file;
+#[cfg(test)]
+mod group_tests;
 mod limit;
 mod pair;
 mod place;
+mod places;
 mod reading;
 mod rules;
+mod tags;
 #[cfg(test)]
 mod tests;
 
@@ -19,6 +23,6 @@ pub use pair::Pair;
 pub use place::Place;
 pub use reading::read_file;
 pub use rules::{
-    law_files_have_form, law_files_have_pairs, law_first_bad_pair, law_first_fault_of_bytes,
-    rules_from,
+    law_files_have_form, law_files_have_pairs, law_first_bad_pair, law_first_bad_place,
+    law_first_fault_of_bytes, law_first_unknown_tag, rules_from,
 };

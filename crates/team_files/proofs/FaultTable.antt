@@ -1,5 +1,5 @@
 -- Reading a value as a head tells the first fault of the table.
-use Rattle.std.proofs.Common.{◌≡◌, ℕ, zero, suc, ◌+◌, ◌<◌, ◌≤◌, ◌⊎◌, inl, inr, Bool, true, false, not, List, [], ◌∷◌, length, map, slice_get, refl, sym, ap, subst, ◌∙◌, Option, Some, None, Result, Ok, Err, arith}
+use Rattle.std.proofs.Common.{◌≡◌, ℕ, zero, suc, ◌+◌, ◌<◌, ◌≤◌, ◌⊎◌, inl, inr, Bool, true, false, not, List, [], ◌∷◌, ◌++◌, length, map, slice_get, refl, sym, ap, subst, ◌∙◌, Option, Some, None, Result, Ok, Err, arith}
 use Rattle.std.specs.Prelude.{◌==◌, nat_lt, bytes_eq, codes, if◌then◌else◌, position, is_none, unwrap_or, ok_or, option_map, option_and_then}
 use Rattle.std.specs.Option.{option_or}
 use Rattle.std.specs.Result.{result_err}
@@ -12,15 +12,18 @@ use Rattle.team_files.specs.declared.fault.Field.{Field}
 use Rattle.team_files.specs.declared.fault.FileFault.{FileFault}
 use Rattle.team_files.specs.declared.fields.HeadFields.{HeadFields}
 use Rattle.team_files.specs.declared.team.Team.{Team}
+use Rattle.team_files.specs.declared.head_limit.HeadLimit.{HeadLimit}
+use Rattle.team_files.specs.declared.head_place.HeadPlace.{HeadPlace}
 use Rattle.team_files.specs.Characters.{is_code}
 use Rattle.team_files.specs.Answers.{after, unless}
 use Rattle.team_files.specs.Kinds.{kind_text, kind_named, is_not_built}
-use Rattle.team_files.specs.Members.{lacks, is_object, text_in, list_in}
-use Rattle.team_files.specs.Heads.{Head, object_fault, fault_of_name, kind_of_text, kind_of, missing_if, missing_in_head, missing_letter, missing_in_team, missing_in_teams, missing_in_list, missing_fault, groups_in, pots_in, objects_in, limits_in, pairs_in, places_in, head_fields, too_many_fault, most_teams, most_pairs, teams_from, same_code_fault, pot_size, pot_size_fault, head_with, head_of}
+use Rattle.team_files.specs.Members.{lacks, is_object, text_in, list_in, positive_in, letter_of}
+use Rattle.team_files.specs.Heads.{Head, object_fault, fault_of_name, kind_of_text, kind_of, missing_if, missing_in_head, missing_letter, missing_in_team, missing_in_limit, missing_in_place, missing_in_each, missing_in_list, missing_in_more, missing_fault, or_wrong, groups_in, pots_in, objects_in, read_behind, list_read, new_tag_in, lo_in, hi_in, limit_fields, limits_in, pairs_in, place_fields, places_in, head_fields, too_many_if, too_many_of, too_many_fault, most_groups, most_pots, most_teams, most_limits, most_pairs, most_places, teams_from, same_code_fault, pot_size, first_uneven, pot_size_fault, head_with, head_of}
 use Rattle.team_files.specs.Codes.{codes_of, IsFirstRepeat}
-use Rattle.team_files.specs.Faults.{team_values, pair_values, kind_at, pots_at, codes_in, team_pots, wrong_if, wrong_in_team, wrong_in_teams, wrong_fault, too_many_of, size_of_pot, pot_size_in, Holds, order_of, IsFirstFault, TellsFirstFault}
+use Rattle.team_files.specs.Faults.{team_values, limit_values, pair_values, place_values, kind_at, groups_at, pots_at, codes_in, team_pots, wrong_if, wrong_in_team, wrong_in_teams, wrong_fault, pot_size_of, size_of_pot, HasPotSizeBy, Holds, order_of, IsFirstFault, TellsFirstFault}
 use Rattle.team_files.proofs.CodeLaws.{FirstRepeatTold, first_told, told_back}
-use Rattle.team_files.proofs.FaultSteps.{FieldsTold, fields_told, CodesTold, codes_told, counted}
+use Rattle.team_files.proofs.FaultSteps.{MembersTold, FieldsTold, fields_told, CodesTold, codes_told, counted}
+use Rattle.team_files.proofs.UnevenPots.{same_sizes, uneven_told, uneven_is_pot, uneven_back}
 
 -- ---- the table as a list: at place n the fault of number n + 2, where it holds
 
@@ -40,7 +43,8 @@ abbrev bad_in : Data → Option FileFault
 bad_in d = option_map (λ place. FileFault.BadCode place) (position (λ c. not (is_code c)) (codes_in d))
 
 abbrev many_in : Data → Option FileFault
-many_in d = too_many_of (length (team_values d)) (length (pair_values d))
+many_in d =
+    too_many_of (groups_at d) (pots_at d) (length (team_values d)) (length (limit_values d)) (length (pair_values d)) (length (place_values d))
 
 abbrev kind_in : Data → Option FileFault
 kind_in d = result_err (kind_of d)
@@ -51,8 +55,12 @@ missing_at d = missing_fault (kind_at d) d
 abbrev wrong_at : Data → Option FileFault
 wrong_at d = wrong_fault (kind_at d) d
 
+abbrev sizes_by : Kind → Data → Option FileFault
+sizes_by Kind.Group d = first_uneven (λ pot. size_of_pot pot d) (groups_at d) 1 (pots_at d)
+sizes_by Kind.Pairing d = pot_size_of (size_of_pot 1 d) (size_of_pot 2 d)
+
 abbrev sizes_in : Data → Option FileFault
-sizes_in d = pot_size_in (kind_at d) d
+sizes_in d = sizes_by (kind_at d) d
 
 abbrev table : Data → List (Option FileFault)
 table d = object_fault d ∷ kind_in d ∷ missing_at d ∷ wrong_at d ∷ many_in d ∷ bad_in d ∷ same_in d ∷ sizes_in d ∷ []
@@ -80,7 +88,8 @@ past : {A : Type 0} (o : Option FileFault) (rest : Result A FileFault) (os : Opt
 past None rest os h = h
 past (Some f) rest os h = refl
 
-sizes_are : (kind : Kind) (d : Data) (ts : List Team) → map (λ t. t.pot) ts ≡ team_pots d → pot_size_fault kind ts ≡ pot_size_in kind d
+sizes_are : (kind : Kind) (d : Data) (ts : List Team) → map (λ t. t.pot) ts ≡ team_pots d → pot_size_fault kind (groups_at d) (pots_at d) ts ≡ sizes_by kind d
+sizes_are Kind.Group d ts e = same_sizes (λ pot. pot_size pot ts) (λ pot. size_of_pot pot d) (groups_at d) 1 (pots_at d) (λ pot. rw (← e) (counted pot ts))
 sizes_are Kind.Pairing d ts e =
     let one : pot_size 1 ts ≡ size_of_pot 1 d = rw (← e) (counted 1 ts) in
     let two : pot_size 2 ts ≡ size_of_pot 2 d = rw (← e) (counted 2 ts) in
@@ -88,27 +97,29 @@ sizes_are Kind.Pairing d ts e =
 
 -- The steps of reading a head, from the last ones to the whole.
 module _ (d : Data) where
-  last : (fields : HeadFields) (ts : List Team) → codes_of ts ≡ codes_in d → map (λ t. t.pot) ts ≡ team_pots d
-      → result_err (unless (same_code_fault ts) (unless (pot_size_fault (kind_at d) ts) (Ok (head_with (kind_at d) fields ts)))) ≡ first_of (same_in d ∷ sizes_in d ∷ [])
-  last fields ts e p =
+  last : (fields : HeadFields) (ts : List Team) → MembersTold d fields → codes_of ts ≡ codes_in d → map (λ t. t.pot) ts ≡ team_pots d
+      → result_err (unless (same_code_fault ts) (unless (pot_size_fault (kind_at d) fields.groups fields.pots ts) (Ok (head_with (kind_at d) fields ts)))) ≡ first_of (same_in d ∷ sizes_in d ∷ [])
+  last fields ts told e p =
       let same : same_code_fault ts ≡ same_in d = same_codes ts (only_codes (codes_in d)) (e ∙ sym (codes_only (codes_in d))) in
-      let sizes = sizes_are (kind_at d) d ts p in
-      rw (← same) (rw (← sizes) (past (same_code_fault ts) _ _ (past (pot_size_fault (kind_at d) ts) _ _ refl)))
+      let sizes : pot_size_fault (kind_at d) fields.groups fields.pots ts ≡ sizes_in d = rw told.groups (rw told.pots (sizes_are (kind_at d) d ts p)) in
+      rw (← same) (rw (← sizes) (past (same_code_fault ts) _ _ (past (pot_size_fault (kind_at d) fields.groups fields.pots ts) _ _ refl)))
 
   with_codes : (fields : HeadFields) (r : Result (List Team) FileFault)
-      → map (λ f. f.code) fields.teams ≡ codes_in d → map (λ f. f.pot) fields.teams ≡ team_pots d → CodesTold r (bad_in d) fields.teams
-      → result_err (after r (λ teams. unless (same_code_fault teams) (unless (pot_size_fault (kind_at d) teams) (Ok (head_with (kind_at d) fields teams))))) ≡ first_of (bad_in d ∷ same_in d ∷ sizes_in d ∷ [])
-  with_codes fields (Err g) e p h = rw h refl
-  with_codes fields (Ok ts) e p h = rw h.0 (last fields ts (h.1 ∙ e) (h.2 ∙ p))
+      → MembersTold d fields → CodesTold r (bad_in d) fields.teams
+      → result_err (after r (λ teams. unless (same_code_fault teams) (unless (pot_size_fault (kind_at d) fields.groups fields.pots teams) (Ok (head_with (kind_at d) fields teams))))) ≡ first_of (bad_in d ∷ same_in d ∷ sizes_in d ∷ [])
+  with_codes fields (Err g) told h = rw h refl
+  with_codes fields (Ok ts) told h = rw h.0 (last fields ts told (h.1 ∙ told.codes) (h.2 ∙ told.team_pots))
 
   with_fields : (r : Result HeadFields FileFault) → FieldsTold r (wrong_at d) d
-      → result_err (after r (λ fields. unless (too_many_fault fields) (after (teams_from 0 fields.teams) (λ teams. unless (same_code_fault teams) (unless (pot_size_fault (kind_at d) teams) (Ok (head_with (kind_at d) fields teams)))))))
+      → result_err (after r (λ fields. unless (too_many_fault fields) (after (teams_from 0 fields.teams) (λ teams. unless (same_code_fault teams) (unless (pot_size_fault (kind_at d) fields.groups fields.pots teams) (Ok (head_with (kind_at d) fields teams)))))))
       ≡ first_of (wrong_at d ∷ many_in d ∷ bad_in d ∷ same_in d ∷ sizes_in d ∷ [])
   with_fields (Err g) h = rw h refl
   with_fields (Ok fields) h =
-      let many : too_many_fault fields ≡ many_in d = rw (← h.1) (rw (← h.4) refl) in
-      let codes : CodesTold (teams_from 0 fields.teams) (bad_in d) fields.teams = rw (← h.2) (codes_told fields.teams) in
-      rw h.0 (rw (← many) (past (too_many_fault fields) _ _ (with_codes fields (teams_from 0 fields.teams) h.2 h.3 codes)))
+      let told = h.1 in
+      let many : too_many_fault fields ≡ many_in d =
+      rw (← told.groups) (rw (← told.pots) (rw (← told.teams) (rw (← told.limits) (rw (← told.pairs) (rw (← told.places) refl))))) in
+      let codes : CodesTold (teams_from 0 fields.teams) (bad_in d) fields.teams = rw (← told.codes) (codes_told fields.teams) in
+      rw h.0 (rw (← many) (past (too_many_fault fields) _ _ (with_codes fields (teams_from 0 fields.teams) told codes)))
 
   -- the kind that is read is the one that the value names
   pub kind_read : (kind : Kind) → kind_of d ≡ Ok kind → kind_at d ≡ kind
@@ -130,7 +141,7 @@ module _ (d : Data) where
   abbrev of_kind : Kind → Result Head FileFault
   of_kind kind =
       unless (missing_fault kind d) (after (head_fields kind d) (λ fields. unless (too_many_fault fields) (after (teams_from 0 fields.teams) (λ teams.
-      unless (same_code_fault teams) (unless (pot_size_fault kind teams) (Ok (head_with kind fields teams)))))))
+      unless (same_code_fault teams) (unless (pot_size_fault kind fields.groups fields.pots teams) (Ok (head_with kind fields teams)))))))
 
   with_kind : (r : Result Kind FileFault) → kind_of d ≡ r
       → result_err (after r (λ kind. of_kind kind)) ≡ first_of (result_err r ∷ missing_at d ∷ wrong_at d ∷ many_in d ∷ bad_in d ∷ same_in d ∷ sizes_in d ∷ [])
@@ -172,9 +183,13 @@ absent false member h = tt
 
 -- what a kind asks for names no kind
 absent_letter : (kind : Kind) (d : Data) → Only NamesAbsent (missing_letter kind d)
+absent_letter Kind.Group d = tt
 absent_letter Kind.Pairing d = absent (lacks (codes "group") d) Field.Group tt
 
 absent_of_head : (kind : Kind) (d : Data) → Only NamesAbsent (missing_in_head kind d)
+absent_of_head Kind.Group d =
+    either NamesAbsent _ _ (absent (lacks (codes "groups") d) Field.Groups tt)
+    (either NamesAbsent _ _ (absent (lacks (codes "pots") d) Field.Pots tt) (absent (lacks (codes "teams") d) Field.Teams tt))
 absent_of_head Kind.Pairing d = absent (lacks (codes "teams") d) Field.Teams tt
 
 absent_in_team : (kind : Kind) (d : Data) → Only NamesAbsent (missing_in_team kind d)
@@ -188,16 +203,41 @@ absent_in_team kind d = go (not (is_object d))
         (either NamesAbsent _ _ (absent (lacks (codes "pot") d) Field.Pot tt)
         (either NamesAbsent _ _ (absent (lacks (codes "tags") d) Field.Tags tt) (absent_letter kind d)))
 
-absent_in_teams : (kind : Kind) (ds : List Data) → Only NamesAbsent (missing_in_teams kind ds)
-absent_in_teams kind [] = tt
-absent_in_teams kind (d ∷ ds) = either NamesAbsent (missing_in_team kind d) (missing_in_teams kind ds) (absent_in_team kind d) (absent_in_teams kind ds)
+absent_in_limit : (d : Data) → Only NamesAbsent (missing_in_limit d)
+absent_in_limit d = go (not (is_object d))
+  where
+    go : (b : Bool) → Only NamesAbsent (if b then None else option_or (missing_if (lacks (codes "tag") d) Field.Tag) (option_or (missing_if (lacks (codes "lo") d) Field.Lo) (missing_if (lacks (codes "hi") d) Field.Hi)))
+    go true = tt
+    go false =
+        either NamesAbsent _ _ (absent (lacks (codes "tag") d) Field.Tag tt)
+        (either NamesAbsent _ _ (absent (lacks (codes "lo") d) Field.Lo tt) (absent (lacks (codes "hi") d) Field.Hi tt))
+
+absent_in_place : (d : Data) → Only NamesAbsent (missing_in_place d)
+absent_in_place d = go (not (is_object d))
+  where
+    go : (b : Bool) → Only NamesAbsent (if b then None else option_or (missing_if (lacks (codes "code") d) Field.Code) (option_or (missing_if (lacks (codes "group") d) Field.Group) (missing_if (lacks (codes "position") d) Field.Position)))
+    go true = tt
+    go false =
+        either NamesAbsent _ _ (absent (lacks (codes "code") d) Field.Code tt)
+        (either NamesAbsent _ _ (absent (lacks (codes "group") d) Field.Group tt) (absent (lacks (codes "position") d) Field.Position tt))
+
+absent_in_each : (fault : Data → Option FileFault) → ((d : Data) → Only NamesAbsent (fault d)) → (ds : List Data) → Only NamesAbsent (missing_in_each fault ds)
+absent_in_each fault one [] = tt
+absent_in_each fault one (d ∷ ds) = either NamesAbsent (fault d) (missing_in_each fault ds) (one d) (absent_in_each fault one ds)
+
+absent_in_list : (fault : Data → Option FileFault) → ((d : Data) → Only NamesAbsent (fault d)) → (l : Option (List Data)) → Only NamesAbsent (missing_in_list fault l)
+absent_in_list fault one None = tt
+absent_in_list fault one (Some ds) = absent_in_each fault one ds
+
+absent_in_more : (kind : Kind) (d : Data) → Only NamesAbsent (missing_in_more kind d)
+absent_in_more Kind.Group d =
+    either NamesAbsent _ _ (absent_in_list missing_in_limit absent_in_limit (list_in (codes "limits") d)) (absent_in_list missing_in_place absent_in_place (list_in (codes "places") d))
+absent_in_more Kind.Pairing d = tt
 
 absent_in_head : (kind : Kind) (d : Data) → Only NamesAbsent (missing_fault kind d)
-absent_in_head kind d = either NamesAbsent (missing_in_head kind d) _ (absent_of_head kind d) (go (list_in (codes "teams") d))
-  where
-    go : (l : Option (List Data)) → Only NamesAbsent (missing_in_list kind l)
-    go None = tt
-    go (Some ds) = absent_in_teams kind ds
+absent_in_head kind d =
+    either NamesAbsent (missing_in_head kind d) _ (absent_of_head kind d)
+    (either NamesAbsent _ _ (absent_in_list (missing_in_team kind) (absent_in_team kind) (list_in (codes "teams") d)) (absent_in_more kind d))
 
 wrong_team : (a b c e g : Bool) → Only NamesWrong (option_or (wrong_if a Field.Code) (option_or (wrong_if b Field.Name) (option_or (wrong_if c Field.Pot) (option_or (wrong_if e Field.Tags) (wrong_if g Field.Group)))))
 wrong_team true b c e g = tt
@@ -211,10 +251,46 @@ wrong_teams : (kind : Kind) (pots : ℕ) (ds : List Data) → Only NamesWrong (w
 wrong_teams kind pots [] = tt
 wrong_teams kind pots (d ∷ ds) = either NamesWrong (wrong_in_team kind pots d) (wrong_in_teams kind pots ds) (wrong_team _ _ _ _ _) (wrong_teams kind pots ds)
 
+-- a step whose faults, and those behind it, have the property
+wrong_after : {A B : Type 0} (r : Result A FileFault) (next : A → Result B FileFault) → Only NamesWrong (result_err r) → ((a : A) → Only NamesWrong (result_err (next a))) → Only NamesWrong (result_err (after r next))
+wrong_after (Ok a) next h k = k a
+wrong_after (Err g) next h k = h
+
+wrong_field : {A : Type 0} (value : Option A) (member : Field) → NamesWrong (FileFault.FieldWrong member) → Only NamesWrong (result_err (or_wrong value member))
+wrong_field None member h = h
+wrong_field (Some a) member h = tt
+
+wrong_behind : {A : Type 0} (read : List A → Data → Result A FileFault) → ((earlier : List A) (d : Data) → Only NamesWrong (result_err (read earlier d)))
+    → (earlier : List A) (ds : List Data) → Only NamesWrong (result_err (read_behind read earlier ds))
+wrong_behind read one earlier [] = tt
+wrong_behind read one earlier (d ∷ ds) = wrong_after (read earlier d) _ (one earlier d) (λ a. wrong_behind read one (earlier ++ a ∷ []) ds)
+
+wrong_list : {A : Type 0} (name : List ℕ) (member : Field) (read : List A → Data → Result A FileFault) (d : Data) → NamesWrong (FileFault.FieldWrong member)
+    → ((earlier : List A) (x : Data) → Only NamesWrong (result_err (read earlier x))) → Only NamesWrong (result_err (list_read name member read d))
+wrong_list name member read d h one = go (lacks name d)
+  where
+    go : (b : Bool) → Only NamesWrong (result_err (if b then Ok [] else after (or_wrong (objects_in name d) member) (read_behind read [])))
+    go true = tt
+    go false = wrong_after (or_wrong (objects_in name d) member) _ (wrong_field (objects_in name d) member h) (λ ds. wrong_behind read one [] ds)
+
+wrong_limit : (earlier : List HeadLimit) (d : Data) → Only NamesWrong (result_err (limit_fields earlier d))
+wrong_limit earlier d =
+    wrong_after (or_wrong (new_tag_in earlier d) Field.Tag) _ (wrong_field (new_tag_in earlier d) Field.Tag tt)
+    (λ tag. wrong_after (or_wrong (lo_in d) Field.Lo) _ (wrong_field (lo_in d) Field.Lo tt)
+    (λ lo. wrong_after (or_wrong (hi_in lo d) Field.Hi) _ (wrong_field (hi_in lo d) Field.Hi tt) (λ hi. tt)))
+
+wrong_place : (earlier : List HeadPlace) (d : Data) → Only NamesWrong (result_err (place_fields earlier d))
+wrong_place earlier d =
+    wrong_after (or_wrong (text_in (codes "code") d) Field.Code) _ (wrong_field (text_in (codes "code") d) Field.Code tt)
+    (λ code. wrong_after (or_wrong (option_and_then letter_of (text_in (codes "group") d)) Field.Group) _ (wrong_field (option_and_then letter_of (text_in (codes "group") d)) Field.Group tt)
+    (λ group. wrong_after (or_wrong (positive_in (codes "position") d) Field.Position) _ (wrong_field (positive_in (codes "position") d) Field.Position tt) (λ position. tt)))
+
 wrong_limits : (kind : Kind) (d : Data) → Only NamesWrong (result_err (limits_in kind d))
+wrong_limits Kind.Group d = wrong_list (codes "limits") Field.Limits limit_fields d tt wrong_limit
 wrong_limits Kind.Pairing d = tt
 
 wrong_places : (kind : Kind) (d : Data) → Only NamesWrong (result_err (places_in kind d))
+wrong_places Kind.Group d = wrong_list (codes "places") Field.Places place_fields d tt wrong_place
 wrong_places Kind.Pairing d = tt
 
 -- a wrong member that is no kind, or what stands behind it
@@ -272,14 +348,29 @@ kind_meant d f e = go (lacks (codes "kind") d) refl e
     go true is h = let same : FileFault.FieldMissing Field.Kind ≡ f = cc in subst (Meant d 1) same (is, refl)
     go false is h = texts (text_in (codes "kind") d) is refl h
 
-many_meant : (d : Data) (f : FileFault) → many_in d ≡ Some f → Meant d 4 f
-many_meant d f e = go (nat_lt most_teams (length (team_values d))) (nat_lt most_pairs (length (pair_values d))) e e
+-- what is past its limit is told with its number
+abbrev IsTooMany : FileFault → Type 0
+IsTooMany f = (what : Field) × (number : ℕ) × (FileFault.TooMany what number ≡ f)
+
+many_if : (most : ℕ) (what : Field) (number : ℕ) → Only IsTooMany (too_many_if most what number)
+many_if most what number = go (nat_lt most number)
   where
-    go : (a b : Bool) → (if a then Some (FileFault.TooMany Field.Teams (length (team_values d))) else (if b then Some (FileFault.TooMany Field.Pairs (length (pair_values d))) else None)) ≡ Some f
-        → many_in d ≡ Some f → Meant d 4 f
-    go true b h k = let same : FileFault.TooMany Field.Teams (length (team_values d)) ≡ f = cc in subst (Meant d 4) same (k ∙ ap (λ x. Some x) (sym same), refl)
-    go false true h k = let same : FileFault.TooMany Field.Pairs (length (pair_values d)) ≡ f = cc in subst (Meant d 4) same (k ∙ ap (λ x. Some x) (sym same), refl)
-    go false false h k = cc
+    go : (b : Bool) → Only IsTooMany (if b then Some (FileFault.TooMany what number) else None)
+    go true = (what, number, refl)
+    go false = tt
+
+many_told : (d : Data) → Only IsTooMany (many_in d)
+many_told d =
+    either IsTooMany _ _ (many_if most_groups Field.Groups (groups_at d))
+    (either IsTooMany _ _ (many_if most_pots Field.Pots (pots_at d))
+    (either IsTooMany _ _ (many_if most_teams Field.Teams (length (team_values d)))
+    (either IsTooMany _ _ (many_if most_limits Field.Limits (length (limit_values d)))
+    (either IsTooMany _ _ (many_if most_pairs Field.Pairs (length (pair_values d))) (many_if most_places Field.Places (length (place_values d)))))))
+
+many_meant : (d : Data) (f : FileFault) → many_in d ≡ Some f → Meant d 4 f
+many_meant d f e =
+    let told = only IsTooMany (many_in d) f (many_told d) e in
+    subst (Meant d 4) told.2 (e ∙ ap (λ x. Some x) (sym told.2), refl)
 
 bad_meant : (d : Data) (f : FileFault) → bad_in d ≡ Some f → Meant d 5 f
 bad_meant d f e = go (position (λ c. not (is_code c)) (codes_in d)) refl e
@@ -297,7 +388,8 @@ same_meant d f e =
 abbrev IsPotSize : FileFault → Type 0
 IsPotSize f = (pot : ℕ) × (number : ℕ) × (FileFault.PotSize pot number ≡ f)
 
-sizes_told : (kind : Kind) (d : Data) (f : FileFault) → pot_size_in kind d ≡ Some f → IsPotSize f
+sizes_told : (kind : Kind) (d : Data) (f : FileFault) → sizes_by kind d ≡ Some f → IsPotSize f
+sizes_told Kind.Group d f e = uneven_is_pot (λ pot. size_of_pot pot d) (groups_at d) 1 (pots_at d) f e
 sizes_told Kind.Pairing d f e = go (size_of_pot 1 d == 0) (size_of_pot 2 d == size_of_pot 1 d) e
   where
     go : (a b : Bool) → (if a then Some (FileFault.PotSize 1 0) else (if b then None else Some (FileFault.PotSize 2 (size_of_pot 2 d)))) ≡ Some f → IsPotSize f
@@ -305,10 +397,25 @@ sizes_told Kind.Pairing d f e = go (size_of_pot 1 d == 0) (size_of_pot 2 d == si
     go false true h = cc
     go false false h = (2, size_of_pot 2 d, cc)
 
+-- the first uneven pot, as the table has it and as it is told
+sizes_hold : (kind : Kind) (d : Data) (pot number : ℕ) → sizes_by kind d ≡ Some (FileFault.PotSize pot number) → HasPotSizeBy kind d pot number
+sizes_hold Kind.Group d pot number e =
+    let u = uneven_told (λ p. size_of_pot p d) (groups_at d) 1 (pots_at d) pot number e in
+    let high = u.high in
+    record { is_pot = (u.low, omega (arith, high)); size = u.number_is; uneven = u.uneven; first = u.first }
+sizes_hold Kind.Pairing d pot number e = e
+
+sizes_back : (kind : Kind) (d : Data) (pot number : ℕ) → HasPotSizeBy kind d pot number → sizes_by kind d ≡ Some (FileFault.PotSize pot number)
+sizes_back Kind.Group d pot number h =
+    let most = h.is_pot.1 in
+    uneven_back (λ p. size_of_pot p d) (groups_at d) 1 (pots_at d) pot number (record { low = h.is_pot.0; high = omega (arith, most); number_is = h.size; uneven = h.uneven; first = h.first })
+sizes_back Kind.Pairing d pot number h = h
+
 sizes_meant : (d : Data) (f : FileFault) → sizes_in d ≡ Some f → Meant d 7 f
 sizes_meant d f e =
     let told = sizes_told (kind_at d) d f e in
-    subst (Meant d 7) told.2 (e ∙ ap (λ x. Some x) (sym told.2), refl)
+    let here : sizes_in d ≡ Some (FileFault.PotSize told.0 told.1) = e ∙ ap (λ x. Some x) (sym told.2) in
+    subst (Meant d 7) told.2 (sizes_hold (kind_at d) d told.0 told.1 here, refl)
 
 -- the entry at a place of a list
 abbrev EntryAt : List (Option FileFault) → ℕ → FileFault → Type 0
@@ -342,12 +449,17 @@ text_not_lacking d text e = go (get (codes "kind") d) e
 
 -- a name of a kind that is not built is that of no kind
 not_named : (text : List ℕ) → is_not_built text ≡ true → kind_named text ≡ None
-not_named text e = go (bytes_eq text (kind_text Kind.Pairing)) refl
+not_named text e = go (bytes_eq text (kind_text Kind.Group)) (bytes_eq text (kind_text Kind.Pairing)) refl refl
   where
-    go : (b : Bool) → bytes_eq text (kind_text Kind.Pairing) ≡ b → (if b then Some Kind.Pairing else None) ≡ None
-    go false is = refl
-    go true is =
-        let same : text ≡ kind_text Kind.Pairing = (bytes_eq-Decides text (kind_text Kind.Pairing)).0 is in
+    go : (a b : Bool) → bytes_eq text (kind_text Kind.Group) ≡ a → bytes_eq text (kind_text Kind.Pairing) ≡ b
+        → (if a then Some Kind.Group else (if b then Some Kind.Pairing else None)) ≡ None
+    go false false is other = refl
+    go true b is other =
+        let same : text ≡ kind_text Kind.Group = (bytes_eq-Decides text (kind_text Kind.Group)).0 is in
+        let built : is_not_built (kind_text Kind.Group) ≡ true = rw same at e in
+        cc
+    go false true is other =
+        let same : text ≡ kind_text Kind.Pairing = (bytes_eq-Decides text (kind_text Kind.Pairing)).0 other in
         let built : is_not_built (kind_text Kind.Pairing) ≡ true = rw same at e in
         cc
 
@@ -371,7 +483,7 @@ stands_all d (FileFault.BadCode place) h =
 stands_all d (FileFault.SameCode code) h =
     let t : FirstRepeatTold (only_codes (codes_in d)) (FileFault.SameCode code) = (h.0, code, refl, subst (λ cs. IsFirstRepeat cs h.0 code) (sym (codes_only (codes_in d))) h.1) in
     (6, ap (λ o. Some o) (told_back (only_codes (codes_in d)) (FileFault.SameCode code) t), refl)
-stands_all d (FileFault.PotSize pot number) h = (7, ap (λ o. Some o) h, refl)
+stands_all d (FileFault.PotSize pot number) h = (7, ap (λ o. Some o) (sizes_back (kind_at d) d pot number h), refl)
 stands_all d (FileFault.UnknownTag place) h = absurd h
 stands_all d (FileFault.BadPair place) h = absurd h
 stands_all d (FileFault.BadPlace place) h = absurd h

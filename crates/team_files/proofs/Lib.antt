@@ -13,6 +13,8 @@ pub mod TeamReading
 -- ---- heads and their faults
 -- a head that was read: what each step gave, and that it has no fault
 pub mod HeadLaws
+-- the first pot that has not one team for each group
+pub mod UnevenPots
 -- what each step of reading says of the value: its part of the head, or the fault of its number
 pub mod FaultSteps
 -- the fault that is told is the first of the table

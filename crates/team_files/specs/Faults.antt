@@ -1,5 +1,5 @@
 -- The table of a head's faults: when each holds of a value, and which is told first (this project's own).
-use Rattle.std.specs.Prelude.{◌≡◌, ℕ, ◌≤◌, ◌↔◌, ◌==◌, not, nat_lt, codes, if◌then◌else◌, Bool, true, false, List, [], ◌∷◌, map, length, position, count_by, Option, Some, None, is_none, unwrap_or, option_and_then, Ok, Err}
+use Rattle.std.specs.Prelude.{◌≡◌, ◌≢◌, ℕ, ◌<◌, ◌≤◌, ◌↔◌, ◌==◌, not, codes, if◌then◌else◌, Bool, true, false, List, [], ◌∷◌, map, length, position, count_by, Option, Some, None, is_none, unwrap_or, option_and_then, Ok, Err}
 use Rattle.std.specs.Option.{option_or}
 use Rattle.std.specs.Result.{result_err}
 use Rattle.serde_json.specs.Data.{Data}
@@ -9,38 +9,65 @@ use Rattle.team_files.specs.declared.fault.FileFault.{FileFault}
 use Rattle.team_files.specs.Characters.{is_code}
 use Rattle.team_files.specs.Kinds.{kind_named, is_not_built}
 use Rattle.team_files.specs.Members.{lacks, is_object, text_in, list_in, tags_in}
-use Rattle.team_files.specs.Heads.{Head, name_in, pot_in, letter_in, groups_in, pots_in, objects_in, limits_in, pairs_in, places_in, missing_fault, most_teams, most_pairs, head_of}
+use Rattle.team_files.specs.Heads.{Head, name_in, pot_in, letter_in, groups_in, pots_in, objects_in, limits_in, pairs_in, places_in, missing_fault, too_many_of, head_of}
 use Rattle.team_files.specs.Codes.{IsFirstRepeat}
 
 -- ---- what a value says
 
--- the elements of `teams` and of `pairs`; none where there is no list
+-- the elements of a list; none where there is no list
+abbrev pub values_in : List ℕ → Data → List Data
+values_in name d = unwrap_or (list_in name d) []
+
 abbrev pub team_values : Data → List Data
-team_values d = unwrap_or (list_in (codes "teams") d) []
+team_values d = values_in (codes "teams") d
 
 abbrev pub pair_values : Data → List Data
-pair_values d = unwrap_or (list_in (codes "pairs") d) []
+pair_values d = values_in (codes "pairs") d
 
--- The kind and the number of pots, which later faults go by. A value that gives none has that fault first, and its later
--- faults are those of a pairing, or of a head without pots.
+-- The kind and the numbers of groups and pots, which later faults go by. A value that gives none has that fault first, and
+-- its later faults are those of a pairing, or of a head without groups or pots.
 abbrev pub kind_at : Data → Kind
 kind_at d = unwrap_or (option_and_then kind_named (text_in (codes "kind") d)) Kind.Pairing
+
+abbrev pub groups_at : Data → ℕ
+groups_at d = unwrap_or (groups_in (kind_at d) d) 0
 
 abbrev pub pots_at : Data → ℕ
 pots_at d = unwrap_or (pots_in (kind_at d) d) 0
 
--- the codes and the pots of the teams, in file order
+-- the elements of `limits` and of `places`; a pairing has none
+abbrev pub limit_values_by : Kind → Data → List Data
+limit_values_by Kind.Group d = values_in (codes "limits") d
+limit_values_by Kind.Pairing d = []
+
+abbrev pub place_values_by : Kind → Data → List Data
+place_values_by Kind.Group d = values_in (codes "places") d
+place_values_by Kind.Pairing d = []
+
+abbrev pub limit_values : Data → List Data
+limit_values d = limit_values_by (kind_at d) d
+
+abbrev pub place_values : Data → List Data
+place_values d = place_values_by (kind_at d) d
+
+-- the codes, the pots and the tags of the teams, in file order
 abbrev pub code_at : Data → List ℕ
 code_at team = unwrap_or (text_in (codes "code") team) []
 
 abbrev pub pot_at : ℕ → Data → ℕ
 pot_at pots team = unwrap_or (pot_in pots team) 0
 
+abbrev pub tags_at : Data → List (List ℕ)
+tags_at team = unwrap_or (tags_in (codes "tags") team) []
+
 abbrev pub codes_in : Data → List (List ℕ)
 codes_in d = map code_at (team_values d)
 
 abbrev pub team_pots : Data → List ℕ
 team_pots d = map (pot_at (pots_at d)) (team_values d)
+
+abbrev pub team_tags : Data → List (List (List ℕ))
+team_tags d = map tags_at (team_values d)
 
 -- ---- 2 NotObject
 
@@ -64,13 +91,13 @@ HasUnknownKind d text = HasKind d text × (kind_named text ≡ None) × (is_not_
 abbrev pub HasKindNotBuilt : Data → Type 0
 HasKindNotBuilt d = (text : List ℕ) × HasKind d text × (is_not_built text ≡ true)
 
--- ---- 4 FieldMissing: the first needed member that is absent, in the head and then in each team
+-- ---- 4 FieldMissing: the first needed member that is absent, in the head and then in each team, limit and place
 
 abbrev pub MissesField : Data → Field → Type 0
 MissesField d member = missing_fault (kind_at d) d ≡ Some (FileFault.FieldMissing member)
 
--- ---- 5 FieldWrong: the first member of another form or range; the members of each team follow `teams`, and `pairs` stand
--- ---- between the limits and the places
+-- ---- 5 FieldWrong: the first member of another form or range; the members of each element follow its list, and `pairs`
+-- ---- stand between the limits and the places
 
 abbrev pub wrong_if : Bool → Field → Option FileFault
 wrong_if wrong field = if wrong then Some (FileFault.FieldWrong field) else None
@@ -101,16 +128,12 @@ wrong_fault kind d =
 abbrev pub HasWrongField : Data → Field → Type 0
 HasWrongField d member = wrong_fault (kind_at d) d ≡ Some (FileFault.FieldWrong member)
 
--- ---- 6 TooMany: more teams than `most_teams`, or else more pairs than `most_pairs`
-
-abbrev pub too_many_of : ℕ → ℕ → Option FileFault
-too_many_of teams pairs =
-    if nat_lt most_teams teams then Some (FileFault.TooMany Field.Teams teams) else (
-    if nat_lt most_pairs pairs then Some (FileFault.TooMany Field.Pairs pairs) else None)
+-- ---- 6 TooMany: the first number past its limit, in the order groups, pots, teams, limits, pairs, places
 
 abbrev pub HasTooMany : Data → Field → ℕ → Type 0
 HasTooMany d what number =
-    too_many_of (length (team_values d)) (length (pair_values d))
+    too_many_of (groups_at d) (pots_at d) (length (team_values d))
+    (length (limit_values d)) (length (pair_values d)) (length (place_values d))
     ≡ Some (FileFault.TooMany what number)
 
 -- ---- 7 BadCode: the first team whose code is not a code
@@ -123,7 +146,8 @@ HasBadCode d place = position (λ code. not (is_code code)) (codes_in d) ≡ Som
 abbrev pub HasSameCode : Data → List ℕ → Type 0
 HasSameCode d code = (place : ℕ) × IsFirstRepeat (codes_in d) place code
 
--- ---- 9 PotSize: of a pairing, pot 1 is empty, or else pot 2 is not of its size
+-- ---- 9 PotSize: of a group draw, the first pot that has not one team for each group; of a pairing, pot 1 is empty, or else
+-- ---- pot 2 is not of its size
 
 abbrev pub size_of_pot : ℕ → Data → ℕ
 size_of_pot pot d = count_by (λ p. p == pot) (team_pots d)
@@ -133,11 +157,20 @@ pot_size_of winners runners_up =
     if winners == 0 then Some (FileFault.PotSize 1 0) else (
     if runners_up == winners then None else Some (FileFault.PotSize 2 runners_up))
 
-abbrev pub pot_size_in : Kind → Data → Option FileFault
-pot_size_in Kind.Pairing d = pot_size_of (size_of_pot 1 d) (size_of_pot 2 d)
+-- the first pot that has not one team for each group, and how many it has
+pub record IsFirstUneven (d : Data) (pot number : ℕ) : Type 0 where
+  pub is_pot : (1 ≤ pot) × (pot ≤ pots_at d)
+  pub size : number ≡ size_of_pot pot d
+  pub uneven : number ≢ groups_at d
+  pub first : (k : ℕ) → 1 ≤ k → k < pot → size_of_pot k d ≡ groups_at d
+
+abbrev pub HasPotSizeBy : Kind → Data → ℕ → ℕ → Type 0
+HasPotSizeBy Kind.Group d pot number = IsFirstUneven d pot number
+HasPotSizeBy Kind.Pairing d pot number =
+    pot_size_of (size_of_pot 1 d) (size_of_pot 2 d) ≡ Some (FileFault.PotSize pot number)
 
 abbrev pub HasPotSize : Data → ℕ → ℕ → Type 0
-HasPotSize d pot number = pot_size_in (kind_at d) d ≡ Some (FileFault.PotSize pot number)
+HasPotSize d = HasPotSizeBy (kind_at d) d
 
 -- ---- the table
 
@@ -149,8 +182,8 @@ abbrev pub HoldsWrong : Data → Field → Type 0
 HoldsWrong d Field.Kind = HasWrongKind d
 HoldsWrong d member = HasWrongField d member
 
--- When a fault holds of a value, whatever other faults hold of it. NotJson is told of bytes that are no value, BadPair of
--- a head's pairs, UnknownTag and BadPlace of other kinds, and NoMemory of no value.
+-- When a fault holds of a value, whatever other faults hold of it. NotJson is told of bytes that are no value; UnknownTag,
+-- BadPair and BadPlace of a head's tags, pairs and places, which are looked up later; and NoMemory of no value.
 abbrev pub Holds : Data → FileFault → Type 0
 Holds d FileFault.NotJson = ⊥
 Holds d FileFault.NotObject = IsNotObject d

@@ -1,10 +1,10 @@
 -- The head of a draw file, or its first fault (this project's own form of a draw file).
-use Rattle.std.specs.Prelude.{◌≡◌, ℕ, ◌+◌, ◌==◌, ◌&&◌, not, nat_le, nat_lt, codes, if◌then◌else◌, List, [], ◌∷◌, ◌++◌, length, Bool, Option, Some, None, option_map, option_and_then, is_some, Result, Ok, Err, ok_or, count_by, IsUtf8, ◌⊎◌}
-use Rattle.std.specs.List.{list_all}
+use Rattle.std.specs.Prelude.{◌≡◌, ℕ, zero, suc, ◌+◌, ◌==◌, ◌&&◌, not, nat_le, nat_lt, bytes_eq, codes, if◌then◌else◌, List, [], ◌∷◌, ◌++◌, length, Bool, Option, Some, None, option_map, option_and_then, is_some, Result, Ok, Err, ok_or, count_by, IsUtf8, ◌⊎◌}
+use Rattle.std.specs.List.{list_all, list_any}
 use Rattle.std.specs.Option.{option_or}
 use Rattle.serde_json.specs.Data.{Data}
 use Rattle.serde_json.specs.Read.{read}
-use Rattle.serde_json.specs.Find.{as_str}
+use Rattle.serde_json.specs.Find.{get, as_str}
 use Rattle.team_files.specs.declared.kind.Kind.{Kind}
 use Rattle.team_files.specs.declared.fault.Field.{Field}
 use Rattle.team_files.specs.declared.fault.FileFault.{FileFault}
@@ -18,7 +18,7 @@ use Rattle.team_files.specs.Characters.{is_code}
 use Rattle.team_files.specs.Kinds.{kind_named, is_not_built}
 use Rattle.team_files.specs.Teams.{find_from}
 use Rattle.team_files.specs.Answers.{after, unless}
-use Rattle.team_files.specs.Members.{lacks, is_object, list_of, text_in, list_in, number_in, where_true, letter_of, tags_in}
+use Rattle.team_files.specs.Members.{lacks, is_object, list_of, text_in, list_in, number_in, where_true, positive_in, number_to, letter_of, tag_of, tags_in}
 
 -- A head as contracts see it.
 pub record Head : Type 0 where
@@ -86,10 +86,15 @@ missing_if absent field = if absent then Some (FileFault.FieldMissing field) els
 
 -- in the head itself
 abbrev pub missing_in_head : Kind → Data → Option FileFault
+missing_in_head Kind.Group d =
+    option_or (missing_if (lacks (codes "groups") d) Field.Groups)
+    (option_or (missing_if (lacks (codes "pots") d) Field.Pots)
+    (missing_if (lacks (codes "teams") d) Field.Teams))
 missing_in_head Kind.Pairing d = missing_if (lacks (codes "teams") d) Field.Teams
 
--- in a team of a pairing, the letter of its first-round group
+-- in a team, in a pairing the letter of its first-round group
 abbrev pub missing_letter : Kind → Data → Option FileFault
+missing_letter Kind.Group d = None
 missing_letter Kind.Pairing d = missing_if (lacks (codes "group") d) Field.Group
 
 -- in one element of `teams`; one that is no object lacks nothing
@@ -100,17 +105,41 @@ missing_in_team kind d = if not (is_object d) then None else
     (option_or (missing_if (lacks (codes "tags") d) Field.Tags)
     (missing_letter kind d)))
 
-abbrev pub missing_in_teams : Kind → List Data → Option FileFault
-missing_in_teams kind [] = None
-missing_in_teams kind (d ∷ ds) = option_or (missing_in_team kind d) (missing_in_teams kind ds)
+-- in a limit
+abbrev pub missing_in_limit : Data → Option FileFault
+missing_in_limit d = if not (is_object d) then None else
+    option_or (missing_if (lacks (codes "tag") d) Field.Tag)
+    (option_or (missing_if (lacks (codes "lo") d) Field.Lo)
+    (missing_if (lacks (codes "hi") d) Field.Hi))
 
-abbrev pub missing_in_list : Kind → Option (List Data) → Option FileFault
-missing_in_list kind None = None
-missing_in_list kind (Some ds) = missing_in_teams kind ds
+-- in a fixed place
+abbrev pub missing_in_place : Data → Option FileFault
+missing_in_place d = if not (is_object d) then None else
+    option_or (missing_if (lacks (codes "code") d) Field.Code)
+    (option_or (missing_if (lacks (codes "group") d) Field.Group)
+    (missing_if (lacks (codes "position") d) Field.Position))
+
+-- in the elements of a list, one after the other; where there is no list, nothing lacks
+abbrev pub missing_in_each : (Data → Option FileFault) → List Data → Option FileFault
+missing_in_each fault [] = None
+missing_in_each fault (d ∷ ds) = option_or (fault d) (missing_in_each fault ds)
+
+abbrev pub missing_in_list : (Data → Option FileFault) → Option (List Data) → Option FileFault
+missing_in_list fault None = None
+missing_in_list fault (Some ds) = missing_in_each fault ds
+
+-- in the lists that a group draw has besides its teams
+abbrev pub missing_in_more : Kind → Data → Option FileFault
+missing_in_more Kind.Group d =
+    option_or (missing_in_list missing_in_limit (list_in (codes "limits") d))
+    (missing_in_list missing_in_place (list_in (codes "places") d))
+missing_in_more Kind.Pairing d = None
 
 abbrev pub missing_fault : Kind → Data → Option FileFault
 missing_fault kind d =
-    option_or (missing_in_head kind d) (missing_in_list kind (list_in (codes "teams") d))
+    option_or (missing_in_head kind d)
+    (option_or (missing_in_list (missing_in_team kind) (list_in (codes "teams") d))
+    (missing_in_more kind d))
 
 -- ---- 5 FieldWrong: the fields, or the first member of another form or range
 
@@ -130,6 +159,7 @@ pot_in pots d =
 
 -- the letter of a team's first-round group, where teams of the kind have one
 abbrev pub letter_in : Kind → Data → Option (Option ℕ)
+letter_in Kind.Group d = Some None
 letter_in Kind.Pairing d =
     option_map (λ letter. Some letter) (option_and_then letter_of (text_in (codes "group") d))
 
@@ -174,18 +204,73 @@ pairs_in d =
     if lacks (codes "pairs") d then Some []
     else option_and_then pairs_of_texts (list_in (codes "pairs") d)
 
--- How many groups and pots there are. A pairing has no groups, and two pots: the winners and the runners-up.
+-- How many groups and pots there are, at least one. A pairing has no groups, and two pots: the winners and the runners-up.
 abbrev pub groups_in : Kind → Data → Option ℕ
+groups_in Kind.Group d = positive_in (codes "groups") d
 groups_in Kind.Pairing d = Some 0
 
 abbrev pub pots_in : Kind → Data → Option ℕ
+pots_in Kind.Group d = positive_in (codes "pots") d
 pots_in Kind.Pairing d = Some 2
 
--- The limits of the tags, and the fixed places. A pairing has none.
+-- values, each read behind the earlier ones
+abbrev pub read_behind : {A : Type 0} → (List A → Data → Result A FileFault)
+    → List A → List Data → Result (List A) FileFault
+read_behind read earlier [] = Ok earlier
+read_behind read earlier (d ∷ ds) =
+    after (read earlier d) (λ a. read_behind read (earlier ++ a ∷ []) ds)
+
+-- a list of objects in a member, each read behind the earlier ones; an absent list is empty
+abbrev pub list_read : {A : Type 0} → List ℕ → Field → (List A → Data → Result A FileFault)
+    → Data → Result (List A) FileFault
+list_read name field read d =
+    if lacks name d then Ok [] else after (or_wrong (objects_in name d) field) (read_behind read [])
+
+-- how many teams with its tag a limit may ask
+abbrev pub most_holders : ℕ
+most_holders = 64
+
+-- the tag of a limit, which no earlier one has
+abbrev pub has_limit : List HeadLimit → List ℕ → Bool
+has_limit limits tag = list_any (λ limit. bytes_eq limit.tag tag) limits
+
+abbrev pub new_tag_in : List HeadLimit → Data → Option (List ℕ)
+new_tag_in earlier d =
+    option_and_then (λ tag. where_true (not (has_limit earlier tag)) tag)
+    (option_and_then tag_of (get (codes "tag") d))
+
+-- the lower bound of a limit, and the upper one, which is not below it
+abbrev pub lo_in : Data → Option ℕ
+lo_in d = number_to most_holders (codes "lo") d
+
+abbrev pub hi_in : ℕ → Data → Option ℕ
+hi_in lo d =
+    option_and_then (λ hi. where_true (nat_le lo hi) hi) (number_to most_holders (codes "hi") d)
+
+-- one limit behind the earlier ones
+abbrev pub limit_fields : List HeadLimit → Data → Result HeadLimit FileFault
+limit_fields earlier d =
+    after (or_wrong (new_tag_in earlier d) Field.Tag) (λ tag.
+    after (or_wrong (lo_in d) Field.Lo) (λ lo.
+    after (or_wrong (hi_in lo d) Field.Hi) (λ hi.
+    Ok (record { tag = tag; lo = lo; hi = hi }))))
+
+-- The limits of the tags. A pairing has none.
 abbrev pub limits_in : Kind → Data → Result (List HeadLimit) FileFault
+limits_in Kind.Group d = list_read (codes "limits") Field.Limits limit_fields d
 limits_in Kind.Pairing d = Ok []
 
+-- one fixed place, whatever the earlier ones: the text of a code, the letter of a group and a position
+abbrev pub place_fields : List HeadPlace → Data → Result HeadPlace FileFault
+place_fields earlier d =
+    after (or_wrong (text_in (codes "code") d) Field.Code) (λ code.
+    after (or_wrong (option_and_then letter_of (text_in (codes "group") d)) Field.Group) (λ group.
+    after (or_wrong (positive_in (codes "position") d) Field.Position) (λ position.
+    Ok (record { code = code; group = group; position = position }))))
+
+-- The fixed places. A pairing has none.
 abbrev pub places_in : Kind → Data → Result (List HeadPlace) FileFault
+places_in Kind.Group d = list_read (codes "places") Field.Places place_fields d
 places_in Kind.Pairing d = Ok []
 
 abbrev pub head_fields : Kind → Data → Result HeadFields FileFault
@@ -206,22 +291,43 @@ head_fields kind d =
       places = places;
     }))))))))
 
--- ---- 6 TooMany: the first list that is longer than its limit
+-- ---- 6 TooMany: the first number past its limit: of groups and of pots, and the length of each list
+
+abbrev pub most_groups : ℕ
+most_groups = 8
+
+abbrev pub most_pots : ℕ
+most_pots = 4
 
 abbrev pub most_teams : ℕ
 most_teams = 40
 
+abbrev pub most_limits : ℕ
+most_limits = 16
+
 abbrev pub most_pairs : ℕ
 most_pairs = 64
 
+abbrev pub most_places : ℕ
+most_places = 40
+
+abbrev pub too_many_if : ℕ → Field → ℕ → Option FileFault
+too_many_if most what number =
+    if nat_lt most number then Some (FileFault.TooMany what number) else None
+
+abbrev pub too_many_of : (groups pots teams limits pairs places : ℕ) → Option FileFault
+too_many_of groups pots teams limits pairs places =
+    option_or (too_many_if most_groups Field.Groups groups)
+    (option_or (too_many_if most_pots Field.Pots pots)
+    (option_or (too_many_if most_teams Field.Teams teams)
+    (option_or (too_many_if most_limits Field.Limits limits)
+    (option_or (too_many_if most_pairs Field.Pairs pairs)
+    (too_many_if most_places Field.Places places)))))
+
 abbrev pub too_many_fault : HeadFields → Option FileFault
 too_many_fault fields =
-    if nat_lt most_teams (length fields.teams)
-    then Some (FileFault.TooMany Field.Teams (length fields.teams))
-    else (
-    if nat_lt most_pairs (length fields.pairs)
-    then Some (FileFault.TooMany Field.Pairs (length fields.pairs))
-    else None)
+    too_many_of fields.groups fields.pots (length fields.teams)
+    (length fields.limits) (length fields.pairs) (length fields.places)
 
 -- ---- 7 BadCode: the teams, or the first one whose code is not a code, counted from i
 
@@ -267,9 +373,19 @@ teams_of all = after (teams_from 0 all) (λ teams. unless (same_code_fault teams
 abbrev pub pot_size : ℕ → List Team → ℕ
 pot_size pot teams = count_by (λ t. t.pot == pot) teams
 
--- of a pairing: pot 1 is empty, or pot 2 is not of its size
-abbrev pub pot_size_fault : Kind → List Team → Option FileFault
-pot_size_fault Kind.Pairing teams =
+-- of so many pots from `pot` on, the first whose size is not the number of groups
+abbrev pub first_uneven : (ℕ → ℕ) → ℕ → ℕ → ℕ → Option FileFault
+first_uneven size groups pot zero = None
+first_uneven size groups pot (suc more) =
+    if size pot == groups then first_uneven size groups (pot + 1) more
+    else Some (FileFault.PotSize pot (size pot))
+
+-- In a head with so many groups and pots. Of a group draw: the first pot that has not one team for each group. Of a
+-- pairing: pot 1 is empty, or pot 2 is not of its size.
+abbrev pub pot_size_fault : Kind → ℕ → ℕ → List Team → Option FileFault
+pot_size_fault Kind.Group groups pots teams =
+    first_uneven (λ pot. pot_size pot teams) groups 1 pots
+pot_size_fault Kind.Pairing groups pots teams =
     if pot_size 1 teams == 0 then Some (FileFault.PotSize 1 0) else (
     if pot_size 2 teams == pot_size 1 teams
     then None
@@ -291,7 +407,7 @@ head_of d =
     unless (too_many_fault fields) (
     after (teams_from 0 fields.teams) (λ teams.
     unless (same_code_fault teams) (
-    unless (pot_size_fault kind teams) (
+    unless (pot_size_fault kind fields.groups fields.pots teams) (
     Ok (head_with kind fields teams)))))))))
 
 -- The head was read of some JSON value, so that none of the faults of a head holds of it.

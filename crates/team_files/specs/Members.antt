@@ -1,5 +1,5 @@
 -- Members of a JSON object, and the forms that they may have.
-use Rattle.std.specs.Prelude.{ℕ, Bool, true, false, not, bytes_eq, List, [], ◌∷◌, Option, Some, None, option_and_then, option_map, is_none, is_some}
+use Rattle.std.specs.Prelude.{ℕ, Bool, true, false, not, nat_le, bytes_eq, List, [], ◌∷◌, Option, Some, None, option_and_then, option_map, is_none, is_some}
 use Rattle.serde_json.specs.Data.{Data, Items, no_items, item}
 use Rattle.serde_json.specs.Find.{get, as_str, as_number, as_u64, as_array, as_object}
 use Rattle.team_files.specs.Characters.{is_capital, is_tag}
@@ -35,6 +35,14 @@ number_in name d = option_and_then as_u64 (option_and_then as_number (get name d
 abbrev pub where_true : {A : Type 0} → Bool → A → Option A
 where_true true a = Some a
 where_true false a = None
+
+-- a whole number in a member that is at least 1
+abbrev pub positive_in : List ℕ → Data → Option ℕ
+positive_in name d = option_and_then (λ n. where_true (nat_le 1 n) n) (number_in name d)
+
+-- a whole number in a member that is at most `most`
+abbrev pub number_to : ℕ → List ℕ → Data → Option ℕ
+number_to most name d = option_and_then (λ n. where_true (nat_le n most) n) (number_in name d)
 
 -- a text of exactly one letter A to Z
 abbrev pub letter_of : List ℕ → Option ℕ

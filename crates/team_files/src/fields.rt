@@ -7,12 +7,13 @@ use crate::tag::Tags;
 use crate::text::Text;
 use std::marker::Model;
 
-/// The members of a team whose forms are right; its code may still be none.
+/// The members of a team whose forms are right; its code may still be none. `pot` is from 1 to the
+/// pots of its head.
 #[derive(Drop)]
 pub struct TeamFields {
     pub code: Text,
     pub name: Option<Text>,
-    pub pot: u32,
+    pub pot: u64,
     pub tags: Tags,
     pub group_letter: Option<u8>,
 }
@@ -55,11 +56,11 @@ impl AllTeamFields {
     }
 }
 
-/// The members of a head whose forms are right.
+/// The members of a head whose forms are right; numbers and lengths may still be past their limits.
 #[derive(Drop)]
 pub struct HeadFields {
-    pub groups: u32,
-    pub pots: u32,
+    pub groups: u64,
+    pub pots: u64,
     pub teams: AllTeamFields,
     pub limits: HeadLimits,
     pub pairs: HeadPairs,

@@ -1,5 +1,5 @@
 ghost use Rattle.std.specs.Prelude.{◌≡◌, ◌≤◌, length};
-ghost use Rattle.team_files.specs.Heads.{IsReadHead, head_from, most_pairs};
+ghost use Rattle.team_files.specs.Heads.{IsReadHead, head_from, most_pairs, most_places};
 
 use crate::head_limit::{HeadLimit, HeadLimits};
 use crate::head_pair::{HeadPair, HeadPairs};
@@ -9,8 +9,8 @@ use crate::teams::Teams;
 use std::marker::Model;
 
 /// What a head says, before its pairs and its fixed places are looked up. By its type it was read of
-/// a value of which no fault of a head holds: so it has at most `MOST_TEAMS` teams and at most
-/// `MOST_PAIRS` pairs.
+/// a value of which no fault of a head holds: so it has at most `MOST_TEAMS` teams, at most
+/// `MOST_PAIRS` pairs and at most `MOST_PLACES` places.
 #[derive(Drop)]
 pub struct Head {
     kind: Kind,
@@ -74,14 +74,14 @@ impl Head {
         self.kind
     }
 
-    /// How many groups there are; 0 in a pairing.
+    /// How many groups there are, at most `MOST_GROUPS`; 0 in a pairing.
     pub fn groups(&self) -> u32
         ensures { result ≡ self.now.groups }
     {
         self.groups
     }
 
-    /// How many pots there are; 2 in a pairing.
+    /// How many pots there are, at most `MOST_POTS`; 2 in a pairing.
     pub fn pots(&self) -> u32
         ensures { result ≡ self.now.pots }
     {
@@ -95,7 +95,7 @@ impl Head {
         &self.teams
     }
 
-    /// The limits of the tags, in file order; none in a pairing.
+    /// The limits of the tags, at most `MOST_LIMITS`, in file order; none in a pairing.
     pub fn limits(&self) -> &[HeadLimit]
         ensures { result.now ≡ self.now.limits }
     {
@@ -110,9 +110,11 @@ impl Head {
         self.pairs.as_slice()
     }
 
-    /// The fixed places as the head names them, in file order; none in a pairing.
+    /// The fixed places as the head names them, at most `MOST_PLACES`, in file order; none in a
+    /// pairing.
     pub fn places(&self) -> &[HeadPlace]
-        ensures { result.now ≡ self.now.places }
+        ensures places { result.now ≡ self.now.places }
+        ensures few { length result.now ≤ most_places }
     {
         self.places.as_slice()
     }

@@ -4,7 +4,7 @@ use crate::tag::Tag;
 use std::marker::Model;
 
 /// A limit as a head names it: each group takes from `lo` to `hi` teams with the tag. `lo` is at most
-/// `hi`.
+/// `hi`, and `hi` at most 64.
 #[derive(Drop)]
 pub struct HeadLimit {
     pub tag: Tag,

@@ -5,6 +5,7 @@ ghost use Rattle.team_files.specs.Kinds.{kind_named, kind_text};
 /// refused with `KindNotBuilt`.
 #[derive(Clone, Copy, Debug, PartialEq, Eq)]
 pub enum Kind {
+    Group,
     Pairing,
 }
 
@@ -13,6 +14,9 @@ impl Kind {
     pub(crate) fn with_name(text: &str) -> Option<Kind>
         ensures { result ≡ kind_named text.now }
     {
+        if text == Kind::Group.text() {
+            return Some(Kind::Group);
+        }
         if text == Kind::Pairing.text() {
             return Some(Kind::Pairing);
         }
@@ -24,6 +28,7 @@ impl Kind {
         ensures { result.now ≡ kind_text self }
     {
         match self {
+            Kind::Group => "group",
             Kind::Pairing => "pairing",
         }
     }

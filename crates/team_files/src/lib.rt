@@ -9,15 +9,19 @@ mod code;
 mod fault;
 mod fields;
 mod forms;
+#[cfg(test)]
+mod group_tests;
 mod head;
 mod head_limit;
 mod head_pair;
 mod head_place;
 mod kind;
 mod laws;
+mod limit_forms;
 mod members;
 mod missing;
 mod pair_forms;
+mod place_forms;
 mod reading;
 mod tag;
 mod team;
@@ -28,7 +32,7 @@ mod teams;
 mod tests;
 mod text;
 
-pub use checks::{MOST_PAIRS, MOST_TEAMS};
+pub use checks::{MOST_GROUPS, MOST_LIMITS, MOST_PAIRS, MOST_PLACES, MOST_POTS, MOST_TEAMS};
 pub use code::Code;
 pub use fault::{Field, FileFault};
 pub use head::Head;

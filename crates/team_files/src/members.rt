@@ -2,7 +2,7 @@
 
 ghost use Rattle.std.specs.Prelude.{◌≡◌, map, option_map};
 ghost use Rattle.serde_json.specs.View.{view};
-ghost use Rattle.team_files.specs.Members.{lacks, text_in, list_of, list_in, number_in};
+ghost use Rattle.team_files.specs.Members.{lacks, text_in, list_of, list_in, number_in, positive_in, number_to};
 
 use serde_json::Value;
 
@@ -43,4 +43,24 @@ pub(crate) fn number_in(value: &Value, name: &str) -> Option<u64>
     ensures { result ≡ number_in name.now (view value.now) }
 {
     value.get(name).and_then(Value::as_u64)
+}
+
+/// The whole number in a member that is at least 1.
+pub(crate) fn positive_in(value: &Value, name: &str) -> Option<u64>
+    ensures { result ≡ positive_in name.now (view value.now) }
+{
+    match number_in(value, name) {
+        Some(number) if 1 <= number => Some(number),
+        _ => None,
+    }
+}
+
+/// The whole number in a member that is at most `most`.
+pub(crate) fn number_to(most: u32, value: &Value, name: &str) -> Option<u32>
+    ensures { result ≡ number_to most name.now (view value.now) }
+{
+    match number_in(value, name) {
+        Some(number) if number <= most as u64 => Some(number as u32),
+        _ => None,
+    }
 }

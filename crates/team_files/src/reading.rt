@@ -6,7 +6,7 @@ ghost use Rattle.serde_json.specs.View.{view};
 ghost use Rattle.team_files.specs.Answers.{Gives};
 ghost use Rattle.team_files.specs.Heads.{IsHead, IsHeadFault, IsJson, IsJsonFault, object_fault, kind_of, kind_of_text, head_of};
 
-use crate::checks::{check_lengths, check_pots, teams_of};
+use crate::checks::{check_numbers, check_pots, teams_of};
 use crate::fault::{Field, FileFault};
 use crate::fields::HeadFields;
 use crate::forms::head_fields;
@@ -18,16 +18,18 @@ use crate::text::Text;
 use serde_json::Value;
 use std::alloc::Global;
 
-/// Reads the head of a draw file, which is one JSON object. Members that a pairing does not have are
+/// Reads the head of a draw file, which is one JSON object. Members that its kind does not have are
 /// ignored, in the teams too, and of repeated members the last counts.
 ///
 /// # Errors
 /// The head's first fault. `NotJson` and `NotObject` come first, then what is wrong with `kind`:
-/// `FieldMissing`, `FieldWrong`, `KindUnknown`, or `KindNotBuilt` where it is `group` or `league`.
+/// `FieldMissing`, `FieldWrong`, `KindUnknown`, or `KindNotBuilt` where it is `league`.
 /// Then, each over the whole head: the first needed member that is absent, `FieldMissing`; the
-/// first member of another form or range, `FieldWrong`; more than `MOST_TEAMS` teams or more than
-/// `MOST_PAIRS` pairs, `TooMany`; the first team without a code, `BadCode`; the first team with an
-/// earlier one's code, `SameCode`; pot 1 empty or pot 2 not of its size, `PotSize`.
+/// first member of another form or range, `FieldWrong`; the first of the numbers of groups, pots,
+/// teams, limits, pairs and places that is past its limit, as `MOST_TEAMS`, `TooMany`; the first team
+/// without a code, `BadCode`; the first team with an earlier one's code, `SameCode`; the first pot of
+/// the wrong size, `PotSize`: of a group draw one that has not one team for each group, of a pairing
+/// pot 1 empty or pot 2 not of its size.
 pub fn read_head(alloc: Global, bytes: &[u8]) -> Result<Head, FileFault>
     ensures ok { IfOk result (λ head. IsHead bytes.now head) }
     ensures fault { IfErr result (λ f. f ≢ FileFault.NoMemory → IsHeadFault bytes.now f) }
@@ -56,7 +58,7 @@ fn head_of(alloc: Global, value: &Value) -> Result<Head, FileFault>
     let kind = kind_of(alloc, value)?;
     check_members(kind, value)?;
     let fields = head_fields(alloc, kind, value)?;
-    check_lengths(&fields)?;
+    check_numbers(&fields)?;
     let HeadFields {
         groups,
         pots,
@@ -65,8 +67,10 @@ fn head_of(alloc: Global, value: &Value) -> Result<Head, FileFault>
         pairs,
         places,
     } = fields;
+    let groups = groups as u32;
+    let pots = pots as u32;
     let teams = teams_of(alloc, teams)?;
-    check_pots(kind, &teams)?;
+    check_pots(kind, groups, pots, &teams)?;
     Ok(Head::new(kind, groups, pots, teams, limits, pairs, places))
 }
 
@@ -98,7 +102,7 @@ fn kind_of_name(alloc: Global, name: &str) -> Result<Kind, FileFault>
     if let Some(kind) = Kind::with_name(name) {
         return Ok(kind);
     }
-    if name == "group" || name == "league" {
+    if name == "league" {
         return Err(FileFault::KindNotBuilt);
     }
     let text = Text::copy(alloc, name)?;

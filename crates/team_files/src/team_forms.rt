@@ -20,7 +20,7 @@ use std::alloc::Global;
 pub(crate) fn team_fields(
     alloc: Global,
     kind: Kind,
-    pots: u32,
+    pots: u64,
     team: &Value,
 ) -> Result<TeamFields, FileFault>
     ensures { Gives result (team_fields kind pots (view team.now)) }
@@ -61,11 +61,11 @@ fn name_in(alloc: Global, team: &Value) -> Result<Option<Text>, FileFault>
 }
 
 /// The pot, from 1 to the number of pots.
-fn pot_in(pots: u32, team: &Value) -> Result<u32, FileFault>
+fn pot_in(pots: u64, team: &Value) -> Result<u64, FileFault>
     ensures { result ≡ or_wrong (pot_in pots (view team.now)) Field.Pot }
 {
     match number_in(team, "pot") {
-        Some(pot) if 1 <= pot && pot <= pots as u64 => Ok(pot as u32),
+        Some(pot) if 1 <= pot && pot <= pots => Ok(pot),
         _ => Err(FileFault::FieldWrong { name: Field::Pot }),
     }
 }
@@ -75,6 +75,7 @@ fn letter_in(kind: Kind, team: &Value) -> Result<Option<u8>, FileFault>
     ensures { result ≡ or_wrong (letter_in kind (view team.now)) Field.Group }
 {
     match kind {
+        Kind::Group => Ok(None),
         Kind::Pairing => match text_in(team, "group").and_then(letter_of) {
             Some(letter) => Ok(Some(letter)),
             None => Err(FileFault::FieldWrong { name: Field::Group }),
@@ -82,7 +83,8 @@ fn letter_in(kind: Kind, team: &Value) -> Result<Option<u8>, FileFault>
     }
 }
 
-fn letter_of(text: &str) -> Option<u8>
+/// The letter of a text of one letter A to Z.
+pub(crate) fn letter_of(text: &str) -> Option<u8>
     ensures { result ≡ letter_of text.now }
 {
     match text.as_bytes() {
@@ -138,7 +140,7 @@ fn two_tags(alloc: Global, first: &Value, second: &Value) -> Result<Tags, FileFa
 }
 
 /// The text of a tag.
-fn tag_of(tag: &Value) -> Option<&str>
+pub(crate) fn tag_of(tag: &Value) -> Option<&str>
     ensures text { option_map (λ text. text.now) result ≡ tag_of (view tag.now) }
     ensures form { IfSome result (λ text. is_tag text.now ≡ true) }
 {

@@ -23,7 +23,8 @@ FieldMissing Kind: {}
 FieldMissing Kind: {"teams":7}
 FieldWrong Kind: {"kind":7}
 FieldWrong Kind: {"kind":null,"teams":7}
-KindNotBuilt: {"kind":"group"}
+FieldMissing Groups: {"kind":"group"}
+KindUnknown Group: {"kind":"Group"}
 KindNotBuilt: {"kind":"league"}
 FieldMissing Teams: {"kind":"pairing"}
 FieldMissing Teams: {"kind":"cup","kind":"pairing"}
@@ -164,7 +165,7 @@ none: []
 "#;
 
 /// A head's first fault in short, or `none`.
-fn fault_text(alloc: Global, head: &str) -> Result<String, AllocError> {
+pub(crate) fn fault_text(alloc: Global, head: &str) -> Result<String, AllocError> {
     let Err(fault) = read_head(alloc, head.as_bytes()) else {
         return String::from_str(alloc, "none");
     };
@@ -184,7 +185,7 @@ fn fault_text(alloc: Global, head: &str) -> Result<String, AllocError> {
 }
 
 /// Each line of the table has a fault, and a text that stands in the head between the two others.
-fn expect_table(
+pub(crate) fn expect_table(
     rt: &impl Abort,
     alloc: Global,
     table: &str,
@@ -293,7 +294,7 @@ fn bytes_that_are_no_text_are_refused(rt: HostRuntime) -> Result<(), Fail> {
 }
 
 /// The part so many times, with commas between, in brackets.
-fn repetition(alloc: Global, part: &str, number: usize) -> Result<String, AllocError> {
+pub(crate) fn repetition(alloc: Global, part: &str, number: usize) -> Result<String, AllocError> {
     let mut list = format!(in alloc; "[{part}")?;
     for _ in 1..number {
         list.push_str(",")?;
