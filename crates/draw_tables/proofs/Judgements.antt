@@ -5,7 +5,7 @@ use Rattle.team_files.specs.declared.team_id.TeamId.{TeamId}
 use Rattle.rule_sets.specs.Files.{DrawFile}
 use Rattle.rule_sets.specs.Forms.{HasForm, HasCommonForm}
 use Rattle.draw_tables.specs.declared.table.Table.{Table}
-use Rattle.draw_tables.specs.declared.table.Table.TheVariants.{Pairs}
+use Rattle.draw_tables.specs.declared.table.Table.TheVariants.{Group, Pairs}
 use Rattle.draw_tables.specs.declared.verdict.Verdict.{Verdict}
 use Rattle.draw_tables.specs.declared.verdict.Verdict.TheVariants.{Legal, Broken}
 use Rattle.draw_tables.specs.declared.pair_rule.PairRule.{PairRule}
@@ -17,12 +17,14 @@ use Rattle.draw_tables.specs.Tables.{IsPairTableOf}
 use Rattle.draw_tables.specs.Verdicts.{times_given, team_at, IsNotGivenOnce, HaveOneLetter, HaveOneTag, IsBrokenPairing, IsNotAfter, IsFirstBroken, LegalWhereNoneBroken, NoneBrokenWhereLegal, OneFirstBroken}
 use Rattle.draw_tables.proofs.Lists.{same_item}
 use Rattle.draw_tables.proofs.PotOrder.{pot_in_order, pot_at_most, once}
+use Rattle.draw_tables.proofs.GroupLegal.{legal_keeps_groups, legal_groups}
 use Rattle.draw_tables.proofs.RuleCases.{IsFirstNotOnce, IsFirstPair, all_once, found_not_once, no_pair, found_pair, letters_broken, tags_broken, letters_break, tags_break, KeepsRule, legal_by, legal_keeps}
 
 -- ---- laws
 
 -- a legal table breaks no rule
 pub none_broken_where_legal : NoneBrokenWhereLegal
+none_broken_where_legal file (Group groups) legal = legal_keeps_groups file groups.places legal.1
 none_broken_where_legal file (Pairs pairs) legal = legal_keeps file pairs.winners legal.1
 
 -- a number that is not other than 1
@@ -33,6 +35,7 @@ one_unless (suc (suc n)) h = absurd (h (λ e. omega arith))
 
 -- a table that breaks no rule is legal
 pub legal_where_none_broken : LegalWhereNoneBroken
+legal_where_none_broken file (Group groups) formed of_file none = (of_file.kind, legal_groups file groups.places formed of_file none)
 legal_where_none_broken file (Pairs pairs) formed of_file none = (
   of_file.kind,
   legal_by file pairs.winners (formed.pairing of_file.kind) of_file.size
@@ -201,7 +204,7 @@ few file table formed of_file =
     omega arith
 
 -- the verdict on a table whose first case was found
-judgement_of : (file : DrawFile) (table : Table) (rule first second : ℕ) (verdict : Verdict) → verdict ≡ Broken rule first second → IsFirstBroken file table rule first second → IsJudgement file table verdict
+pub judgement_of : (file : DrawFile) (table : Table) (rule first second : ℕ) (verdict : Verdict) → verdict ≡ Broken rule first second → IsFirstBroken file table rule first second → IsJudgement file table verdict
 judgement_of file table rule first second verdict is h = record {
   legal = (
     λ e. let clash = sym is ∙ e in cc,

@@ -61,18 +61,18 @@ among_pot pot i (u ∷ ts) x h = go (λ g. among_pot pot (i + 1) ts x g) (u.pot 
 -- ---- those that have a property
 
 -- an item with the property is kept
-pub kept_among : (p : TeamId → Bool) (xs : List TeamId) (x : TeamId) → IsAmong xs x → p x ≡ true → IsAmong (filter p xs) x
-kept_among p xs x h is = at xs h.0 h.1
+pub kept_among : {A : Type 0} (p : A → Bool) (xs : List A) (x : A) → IsAmong xs x → p x ≡ true → IsAmong (filter p xs) x
+kept_among {A = A} p xs x h is = at xs h.0 h.1
   where
-    at : (ys : List TeamId) (k : ℕ) → slice_get ys k ≡ Some x → IsAmong (filter p ys) x
+    at : (ys : List A) (k : ℕ) → slice_get ys k ≡ Some x → IsAmong (filter p ys) x
     at [] k e = cc
     at (y ∷ ys) zero e = let same : x ≡ y = cc in rw same (here y (filter p ys) (p y) (ap p (sym same) ∙ is))
     at (y ∷ ys) (suc k) e = later y (filter p ys) (p y) x (at ys k e)
 
 -- what is kept is an item with the property
-pub among_kept : (p : TeamId → Bool) (xs : List TeamId) (x : TeamId) → IsAmong (filter p xs) x → (p x ≡ true) × IsAmong xs x
+pub among_kept : {A : Type 0} (p : A → Bool) (xs : List A) (x : A) → IsAmong (filter p xs) x → (p x ≡ true) × IsAmong xs x
 among_kept p [] x h = absurd (none_among x h)
-among_kept p (y ∷ ys) x h = go (λ g. among_kept p ys x g) (p y) refl h.0 h.1
+among_kept {A = A} p (y ∷ ys) x h = go (λ g. among_kept p ys x g) (p y) refl h.0 h.1
   where
     after : (p x ≡ true) × IsAmong ys x → (p x ≡ true) × IsAmong (y ∷ ys) x
     after g = (g.0, (suc g.1.0, g.1.1))

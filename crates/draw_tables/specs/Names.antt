@@ -1,20 +1,26 @@
--- Moves, choices and phases of a file: each team in them is one of its teams.
-use Rattle.std.specs.Prelude.{List}
+-- Moves, choices and phases of a file: each team, group, pot and position in them is one of its own.
+use Rattle.std.specs.Prelude.{ℕ, ◌<◌, ◌≤◌, List}
 use Rattle.std.specs.List.{AllByRecursion as Each}
 use Rattle.rule_sets.specs.Files.{DrawFile}
 use Rattle.draw_tables.specs.declared.moves.Move.{Move}
-use Rattle.draw_tables.specs.declared.moves.Move.TheVariants.{Drawn, Paired}
+use Rattle.draw_tables.specs.declared.moves.Move.TheVariants.{Drawn, Placed, Positioned, Paired}
 use Rattle.draw_tables.specs.declared.moves.Choice.{Choice}
-use Rattle.draw_tables.specs.declared.moves.Choice.TheVariants.{Team}
+use Rattle.draw_tables.specs.declared.moves.Choice.TheVariants as choice
 use Rattle.draw_tables.specs.declared.moves.Phase.{Phase}
-use Rattle.draw_tables.specs.declared.moves.Phase.TheVariants.{Runner, Opponent, Complete}
-use Rattle.draw_tables.specs.Pots.{IsTeamOf}
+use Rattle.draw_tables.specs.declared.moves.Phase.TheVariants as phase
+use Rattle.draw_tables.specs.Pots.{IsTeamOf, IsPot}
 use Rattle.draw_tables.specs.States.{phase_of, candidates, IsState}
 use Rattle.draw_tables.specs.Offers.{IsOffer}
+
+-- the position is one of the file that is drawn by a ball
+abbrev pub IsLaterPosition : DrawFile → ℕ → Type 0
+IsLaterPosition file position = (2 ≤ position) × (position ≤ file.pots)
 
 -- the move is one of the file
 abbrev pub IsFileMove : DrawFile → Move → Type 0
 IsFileMove file (Drawn t) = IsTeamOf file t
+IsFileMove file (Placed t group) = IsTeamOf file t × (group < file.groups)
+IsFileMove file (Positioned t position) = IsTeamOf file t × IsLaterPosition file position
 IsFileMove file (Paired r w) = IsTeamOf file r × IsTeamOf file w
 
 -- each move is one of the file
@@ -23,7 +29,9 @@ AreFileMoves file ms = Each (IsFileMove file) ms
 
 -- the choice is one of the file
 abbrev pub IsFileChoice : DrawFile → Choice → Type 0
-IsFileChoice file (Team t) = IsTeamOf file t
+IsFileChoice file (choice.Team t) = IsTeamOf file t
+IsFileChoice file (choice.Group group) = group < file.groups
+IsFileChoice file (choice.Position position) = IsLaterPosition file position
 
 -- each choice is one of the file
 abbrev pub AreFileChoices : DrawFile → List Choice → Type 0
@@ -31,9 +39,12 @@ AreFileChoices file cs = Each (IsFileChoice file) cs
 
 -- the phase is one of the file
 abbrev pub IsFilePhase : DrawFile → Phase → Type 0
-IsFilePhase file Runner = Unit {0}
-IsFilePhase file (Opponent r) = IsTeamOf file r
-IsFilePhase file Complete = Unit {0}
+IsFilePhase file phase.Runner = Unit {0}
+IsFilePhase file (phase.Opponent r) = IsTeamOf file r
+IsFilePhase file (phase.Team pot) = IsPot file pot
+IsFilePhase file (phase.Group t) = IsTeamOf file t
+IsFilePhase file (phase.Position t) = IsTeamOf file t
+IsFilePhase file phase.Complete = Unit {0}
 
 -- What a state names is of its file: its moves, its phase, its candidates, and what is offered in it.
 pub record StatesNameTeams : Type 0 where

@@ -1,20 +1,25 @@
 -- What is possible: some legal table extends the moves. The offer of a state.
-use Rattle.std.specs.Prelude.{◌≡◌, ◌↔◌, ◌⊎◌, List, [], ◌∷◌, ◌++◌}
+use Rattle.std.specs.Prelude.{◌≡◌, ◌↔◌, ◌⊎◌, List, [], ◌∷◌, ◌++◌, Some}
 use Rattle.rule_sets.specs.Files.{DrawFile}
 use Rattle.draw_tables.specs.declared.moves.Move.{Move}
-use Rattle.draw_tables.specs.declared.moves.Move.TheVariants.{Drawn, Paired}
+use Rattle.draw_tables.specs.declared.moves.Move.TheVariants.{Drawn, Placed, Positioned, Paired}
 use Rattle.draw_tables.specs.declared.moves.Choice.{Choice}
 use Rattle.draw_tables.specs.declared.table.Table.{Table}
-use Rattle.draw_tables.specs.declared.table.Table.TheVariants.{Pairs}
+use Rattle.draw_tables.specs.declared.table.Table.TheVariants.{Group, Pairs}
+use Rattle.draw_tables.specs.GroupTables.{group_of, position_of}
 use Rattle.draw_tables.specs.Pairings.{GivesOpponent}
 use Rattle.draw_tables.specs.Tables.{IsLegal}
 use Rattle.draw_tables.specs.Lists.{IsAmong}
 use Rattle.draw_tables.specs.States.{candidates, IsMoveOf, IsCandidateMove}
 
--- the table agrees with the move; a drawn ball says nothing of the table
+-- the table agrees with the move; a drawn ball says nothing of the table, and no table agrees with a move of another kind of draw
 abbrev pub AgreesWith : DrawFile → Table → Move → Type 0
 AgreesWith file table (Drawn t) = Unit {0}
+AgreesWith file (Group groups) (Placed t group) = group_of groups.places t ≡ Some group
+AgreesWith file (Group groups) (Positioned t position) =
+    position_of groups.places t ≡ Some position
 AgreesWith file (Pairs pairs) (Paired r w) = GivesOpponent file pairs.winners r w
+AgreesWith file table m = ⊥
 
 -- The table extends the moves: it agrees with each of them.
 abbrev pub Extends : DrawFile → Table → List Move → Type 0

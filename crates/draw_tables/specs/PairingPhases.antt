@@ -5,7 +5,7 @@ use Rattle.team_files.specs.declared.team_id.TeamId.{TeamId}
 use Rattle.team_files.specs.Members.{where_true}
 use Rattle.rule_sets.specs.Files.{DrawFile}
 use Rattle.draw_tables.specs.declared.moves.Move.{Move}
-use Rattle.draw_tables.specs.declared.moves.Move.TheVariants.{Drawn, Paired}
+use Rattle.draw_tables.specs.declared.moves.Move.TheVariants.{Drawn, Placed, Positioned, Paired}
 use Rattle.draw_tables.specs.declared.moves.Phase.{Phase}
 use Rattle.draw_tables.specs.declared.moves.Phase.TheVariants.{Runner, Opponent, Complete}
 use Rattle.draw_tables.specs.Pots.{winners, runners_up}
@@ -16,6 +16,8 @@ use Rattle.draw_tables.specs.Moves.{is_drawn, last_drawn}
 -- the move gives the runner-up an opponent
 abbrev pub pairs_runner_up : TeamId → Move → Bool
 pairs_runner_up t (Drawn s) = false
+pairs_runner_up t (Placed s group) = false
+pairs_runner_up t (Positioned s position) = false
 pairs_runner_up t (Paired r w) = r.0 == t.0
 
 -- the runner-up has an opponent
@@ -25,6 +27,8 @@ has_opponent t ms = list_any (pairs_runner_up t) ms
 -- the move gives the winner to a runner-up
 abbrev pub pairs_winner : TeamId → Move → Bool
 pairs_winner t (Drawn s) = false
+pairs_winner t (Placed s group) = false
+pairs_winner t (Positioned s position) = false
 pairs_winner t (Paired r w) = w.0 == t.0
 
 -- the winner is paired

@@ -5,12 +5,13 @@ use Rattle.team_files.specs.declared.team_id.TeamId.{TeamId}
 use Rattle.rule_sets.specs.Files.{DrawFile}
 use Rattle.rule_sets.specs.Forms.{HasForm}
 use Rattle.draw_tables.specs.declared.table.Table.{Table}
-use Rattle.draw_tables.specs.declared.table.Table.TheVariants.{Pairs}
+use Rattle.draw_tables.specs.declared.table.Table.TheVariants.{Group, Pairs}
 use Rattle.draw_tables.specs.declared.verdict.Verdict.{Verdict}
 use Rattle.draw_tables.specs.declared.verdict.Verdict.TheVariants.{Broken}
 use Rattle.draw_tables.specs.Lists.{IsAmong}
 use Rattle.draw_tables.specs.Pots.{winners, IsTeam}
 use Rattle.draw_tables.specs.Pairings.{GivesOpponent, have_same_letter, have_common_tag, is_forbidden}
+use Rattle.draw_tables.specs.GroupVerdicts.{IsBrokenGroups}
 use Rattle.draw_tables.specs.Tables.{IsTableOf, IsLegal}
 
 -- the team at this place in the file
@@ -60,6 +61,7 @@ IsBrokenPairing file table rule first second =
 
 -- The table breaks the rule, and the two numbers tell the case.
 abbrev pub IsBroken : DrawFile → Table → ℕ → ℕ → ℕ → Type 0
+IsBroken file (Group groups) rule first second = IsBrokenGroups file groups.places rule first second
 IsBroken file (Pairs pairs) rule first second = IsBrokenPairing file pairs.winners rule first second
 
 -- one case is told before another, or is the same: by the rule, then by the first number, then by the second

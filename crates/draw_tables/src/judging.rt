@@ -7,6 +7,7 @@ ghost use Rattle.draw_tables.specs.Passes.{IsJudgement, first_not_once, first_pa
 ghost use Rattle.draw_tables.specs.Tables.{IsLegal, IsPairTableOf, IsTableOf};
 ghost use Rattle.draw_tables.specs.Verdicts.{NamesFirstBroken, times_given};
 
+use crate::group_judging::judge_groups;
 use crate::pair_rule::PairRule;
 use crate::rules::breaks;
 use crate::table::Table;
@@ -22,6 +23,7 @@ pub fn judge(file: &DrawFile, table: &Table) -> Verdict
     ensures broken { NamesFirstBroken file.now table.now result }
 {
     match table {
+        Table::Group(groups) => judge_groups(file, groups.places()),
         Table::Pairs(pairs) => judge_pairing(file, pairs.winners()),
     }
 }

@@ -1,5 +1,6 @@
 ghost use Rattle.draw_tables.specs.Names.{StatesNameTeams};
 ghost use Rattle.draw_tables.specs.Offers.{OfferWhereDecided, OfferedWherePossible, OneOffer};
+ghost use Rattle.draw_tables.specs.Positions.{HeldIsImpossible, OneHolder, StaysClean};
 ghost use Rattle.draw_tables.specs.Verdicts.{LegalWhereNoneBroken, NoneBrokenWhereLegal, OneFirstBroken};
 ghost use Rattle.draw_tables.specs.TableTexts.{OneTableOfText};
 
@@ -45,4 +46,12 @@ pub fn law_offer_where_decided()
 /// The moves, the phase, the candidates and the offer of a state name teams of its file only.
 pub fn law_states_name_teams()
     ensures { StatesNameTeams }
+{}
+
+/// Positions of a group that are held. One that is not held leaves the positions of the moves clean;
+/// one that is held is not possible; and where the moves can be completed it has one holder.
+pub fn law_held_positions()
+    ensures clean { StaysClean }
+    ensures held { HeldIsImpossible }
+    ensures holder { OneHolder }
 {}

@@ -1,9 +1,10 @@
 ghost use Rattle.std.specs.Prelude.{◌≡◌, ◌↔◌, [], IsTrue};
-ghost use Rattle.draw_tables.specs.Moves.{is_drawn, last_drawn};
 ghost use Rattle.draw_tables.specs.PairingPhases.{has_opponent, is_paired, waiting_runner_up, undrawn_runners_up, pairing_phase};
 ghost use Rattle.draw_tables.specs.States.{phase_of};
 
+use crate::group_phases::{group_phase, has_undrawn};
 use crate::moves::{Move, Phase};
+use crate::moves_said::last_drawn;
 use rule_sets::DrawFile;
 use team_files::{Kind, TeamId};
 
@@ -12,6 +13,7 @@ pub fn phase_of(file: &DrawFile, moves: &[Move]) -> Phase
     ensures { result ≡ phase_of file.now moves.now }
 {
     match file.kind() {
+        Kind::Group => group_phase(file, moves),
         Kind::Pairing => pairing_phase(file, moves),
     }
 }
@@ -39,31 +41,11 @@ fn waiting_runner_up(moves: &[Move]) -> Option<TeamId>
     Some(runner)
 }
 
-/// The team that was drawn last.
-fn last_drawn(moves: &[Move]) -> Option<TeamId>
-    ensures { result ≡ last_drawn moves.now }
-{
-    let mut last = None;
-    for step in moves {
-        if let Move::Drawn(team) = *step {
-            last = Some(team);
-        }
-    }
-    last
-}
-
 /// Whether the runner-up has an opponent.
 fn has_opponent(moves: &[Move], runner: TeamId) -> bool
     ensures { result ≡ has_opponent runner moves.now }
 {
     moves.iter().any(|step| matches!(*step, Move::Paired(other, _) if other == runner))
-}
-
-/// Whether the team was drawn.
-pub(crate) fn is_drawn(moves: &[Move], team: TeamId) -> bool
-    ensures { result ≡ is_drawn team moves.now }
-{
-    moves.iter().any(|step| matches!(*step, Move::Drawn(other) if other == team))
 }
 
 /// Whether the winner is paired.
@@ -77,12 +59,5 @@ pub(crate) fn is_paired(moves: &[Move], winner: TeamId) -> bool
 fn are_all_drawn(file: &DrawFile, moves: &[Move]) -> bool
     ensures { IsTrue result ↔ (undrawn_runners_up file.now moves.now ≡ []) }
 {
-    let teams = file.teams();
-    for place in 0..teams.number() {
-        let id = TeamId(place);
-        if teams.get(id).pot == 2 && !is_drawn(moves, id) {
-            return false;
-        }
-    }
-    true
+    !has_undrawn(file, moves, 2)
 }

@@ -1,5 +1,5 @@
 ghost use Rattle.std.specs.Prelude.{◌≡◌, ◌<◌, ◌^◌, length, IfOk};
-ghost use Rattle.draw_tables.specs.Pots.{AreTeamsOf, pot_from, teams_of_pot};
+ghost use Rattle.draw_tables.specs.Pots.{AreTeamsOf, is_of_pot, pot_from, pot_of, teams_of_pot};
 
 use crate::NoMemory;
 use rule_sets::DrawFile;
@@ -28,4 +28,22 @@ fn members_of(alloc: Global, teams: &Teams, pot: u32) -> Result<Vec<TeamId>, NoM
         found.push(id)?;
     }
     Ok(found)
+}
+
+/// The pot of a team, or none where the number is no team's.
+pub(crate) fn pot_of(file: &DrawFile, team: TeamId) -> Option<u32>
+    ensures { result ≡ pot_of file.now team }
+{
+    let teams = file.teams();
+    if team.0 >= teams.number() {
+        return None;
+    }
+    Some(teams.get(team).pot)
+}
+
+/// Whether the team is of the pot.
+pub(crate) fn is_of_pot(file: &DrawFile, team: TeamId, pot: u32) -> bool
+    ensures { result ≡ is_of_pot file.now pot team }
+{
+    pot_of(file, team) == Some(pot)
 }

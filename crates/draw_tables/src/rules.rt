@@ -45,7 +45,7 @@ fn have_common_tag(one: &Team, other: &Team) -> bool
 }
 
 /// Whether the tags have the tag.
-fn has_tag(tags: &[Tag], tag: &Tag) -> bool
+pub(crate) fn has_tag(tags: &[Tag], tag: &Tag) -> bool
     ensures { result ≡ list_any (λ t. bytes_eq tag.now t) tags.now }
 {
     tags.iter().any(|other| tag.bytes() == other.bytes())
