@@ -9,7 +9,7 @@ use Rattle.count_core.specs.declared.lit.Lit.{Lit}
 use Rattle.count_core.specs.Assignments.{value_of, makes_true, SatisfiesRule, Satisfies, SatisfiesQuestion}
 use Rattle.count_core.proofs.Lists.{count_cons, each_at}
 use Rattle.draw_tables.specs.declared.moves.Move.{Move}
-use Rattle.draw_tables.specs.declared.moves.Move.TheVariants.{Drawn, Paired}
+use Rattle.draw_tables.specs.declared.moves.Move.TheVariants.{Drawn, Placed, Positioned, Paired}
 use Rattle.draw_tables.specs.Pots.{winners, runners_up, IsTeamOf, AreTeamsOf}
 use Rattle.draw_tables.specs.Pairings.{may_meet, GivesOpponent, IsLegalPairing}
 use Rattle.draw_tables.specs.States.{IsState}
@@ -116,6 +116,8 @@ module _ (file : DrawFile) (values : List Bool) (satisfied : Satisfies values (r
     extended : (ms : List Move) → Each (IsKnown file) ms → SatisfiesQuestion values (lits_of_moves file ms) → Extends file (pair_table table) ms
     extended [] h g = tt
     extended (Drawn t ∷ ms) h g = (tt, extended ms h.1 g)
+    extended (Placed t group ∷ ms) h g = absurd h.0
+    extended (Positioned t position ∷ ms) h g = absurd h.0
     extended (Paired r w ∷ ms) h g =
         let is_r = place_found r (runners_up file) h.0.0.0 h.0.0.1 in
         let is_w = place_found w (winners file) h.0.1.0 h.0.1.1 in (

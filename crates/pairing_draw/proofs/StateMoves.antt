@@ -13,9 +13,9 @@ use Rattle.count_core.specs.Problems.{mentions, repeats, are_within}
 use Rattle.count_core.proofs.Lists.{each_push}
 use Rattle.count_core.proofs.Rules.{within_from_each}
 use Rattle.draw_tables.specs.declared.moves.Move.{Move}
-use Rattle.draw_tables.specs.declared.moves.Move.TheVariants.{Drawn, Paired}
+use Rattle.draw_tables.specs.declared.moves.Move.TheVariants.{Drawn, Placed, Positioned, Paired}
 use Rattle.draw_tables.specs.declared.moves.Choice.{Choice}
-use Rattle.draw_tables.specs.declared.moves.Choice.TheVariants.{Team}
+use Rattle.draw_tables.specs.declared.moves.Choice.TheVariants.{Team, Group, Position}
 use Rattle.draw_tables.specs.Lists.{IsAmong}
 use Rattle.draw_tables.specs.Pots.{winners, runners_up}
 use Rattle.draw_tables.specs.Moves.{last_drawn, is_drawn}
@@ -40,15 +40,19 @@ any_last p xs x e = rw (list_any-append p xs (x ∷ [])) (or_right (list_any p x
 
 -- ---- the teams of the moves
 
--- the move is about runners-up and winners of the file
+-- the move is one of a pairing, about runners-up and winners of the file
 abbrev pub IsKnown : DrawFile → Move → Type 0
 IsKnown file (Drawn t) = IsAmong (runners_up file) t
+IsKnown file (Placed t group) = ⊥
+IsKnown file (Positioned t position) = ⊥
 IsKnown file (Paired r w) = IsAmong (runners_up file) r × IsAmong (winners file) w
 
 -- each winner is paired once
 abbrev pub Apart : List Move → Type 0
 Apart [] = Unit {0}
 Apart (Drawn t ∷ ms) = Apart ms
+Apart (Placed t group ∷ ms) = Apart ms
+Apart (Positioned t position ∷ ms) = Apart ms
 Apart (Paired r w ∷ ms) = (is_paired w ms ≡ false) × Apart ms
 
 module _ (file : DrawFile) (kind : file.kind ≡ Kind.Pairing) where
@@ -74,6 +78,10 @@ module _ (file : DrawFile) (kind : file.kind ≡ Kind.Pairing) where
   in_phase before h None is (x ∷ xs) are (Team t) m among e =
       let found = among_kept (λ r. not (is_drawn r before)) (runners_up file) t (among_choices (undrawn_runners_up file before) t among) in
       subst (IsNext before) (same_item (Drawn t) m e) (record { known = found.1; fresh = λ w d. cc })
+  in_phase before h None is (x ∷ xs) are (Group group) m among e = cc
+  in_phase before h None is (x ∷ xs) are (Position position) m among e = cc
+  in_phase before h (Some r) is left are (Group group) m among e = cc
+  in_phase before h (Some r) is left are (Position position) m among e = cc
   in_phase before h (Some r) is left are (Team t) m among e =
       let found = among_kept (λ w. not (is_paired w before)) (winners file) t (among_choices (unpaired_winners file before) t among) in
       subst (IsNext before) (same_item (Paired r t) m e) (record {
@@ -119,6 +127,8 @@ module _ (file : DrawFile) (kind : file.kind ≡ Kind.Pairing) where
   apart_after before (Drawn t ∷ ms) h g =
       let next = next_is before (Drawn t) h g.0 in
       apart_after (before ++ Drawn t ∷ []) ms (each_push (IsKnown file) before (Drawn t) h next.known) g.1
+  apart_after before (Placed t group ∷ ms) h g = absurd (next_is before (Placed t group) h g.0).known
+  apart_after before (Positioned t position ∷ ms) h g = absurd (next_is before (Positioned t position) h g.0).known
   apart_after before (Paired r w ∷ ms) h g =
       let next = next_is before (Paired r w) h g.0 in
       let known = each_push (IsKnown file) before (Paired r w) h next.known in (
@@ -146,6 +156,8 @@ module _ (file : DrawFile) where
       each : (ms : List Move) → Each (IsKnown file) ms → Each (λ l. l.atom.0 < length (runners_up file) * length (winners file)) (lits_of_moves file ms)
       each [] h = tt
       each (Drawn t ∷ ms) h = each ms h.1
+      each (Placed t group ∷ ms) h = absurd h.0
+      each (Positioned t position ∷ ms) h = absurd h.0
       each (Paired r w ∷ ms) h = (
         atom_within (length (runners_up file)) (length (winners file)) (place_of r (runners_up file)) (place_of w (winners file)) (place_within r (runners_up file) h.0.0) (place_within w (winners file) h.0.1),
         each ms h.1,
@@ -155,6 +167,8 @@ module _ (file : DrawFile) where
       → mentions (pair_lit (length (winners file)) (place_of r (runners_up file)) (place_of w (winners file))).atom.0 (lits_of_moves file ms) ≡ false
   other_atoms r w at [] h e = refl
   other_atoms r w at (Drawn t ∷ ms) h e = other_atoms r w at ms h.1 e
+  other_atoms r w at (Placed t group ∷ ms) h e = absurd h.0
+  other_atoms r w at (Positioned t position ∷ ms) h e = absurd h.0
   other_atoms r w at (Paired s v ∷ ms) h e = by_cases (cases_Bool (v.0 == w.0)) e (other_atoms r w at ms h.1)
     where
       by_cases : ((v.0 == w.0) ≡ true) ⊎ ((v.0 == w.0) ≡ false) → ((v.0 == w.0) || is_paired w ms) ≡ false
@@ -173,6 +187,8 @@ module _ (file : DrawFile) where
   pub lits_distinct : (ms : List Move) → Each (IsKnown file) ms → Apart ms → repeats (lits_of_moves file ms) ≡ false
   lits_distinct [] h g = refl
   lits_distinct (Drawn t ∷ ms) h g = lits_distinct ms h.1 g
+  lits_distinct (Placed t group ∷ ms) h g = absurd h.0
+  lits_distinct (Positioned t position ∷ ms) h g = absurd h.0
   lits_distinct (Paired r w ∷ ms) h g = rw (other_atoms r w h.0.1 ms h.1 g.0) (lits_distinct ms h.1 g.1)
 
 -- the literals of a state's moves make a question

@@ -11,8 +11,8 @@ use Rattle.count_core.specs.declared.lit.Lit.{Lit}
 use Rattle.count_core.specs.Assignments.{value_of, makes_true, SatisfiesRule, Satisfies, SatisfiesQuestion}
 use Rattle.count_core.proofs.Lists.{count_cons}
 use Rattle.draw_tables.specs.declared.moves.Move.{Move}
-use Rattle.draw_tables.specs.declared.moves.Move.TheVariants.{Drawn, Paired}
-use Rattle.draw_tables.specs.declared.table.Table.TheVariants.{Pairs}
+use Rattle.draw_tables.specs.declared.moves.Move.TheVariants.{Drawn, Placed, Positioned, Paired}
+use Rattle.draw_tables.specs.declared.table.Table.TheVariants.{Group, Pairs}
 use Rattle.draw_tables.specs.Pots.{winners, runners_up}
 use Rattle.draw_tables.specs.Pairings.{may_meet, IsLegalPairing}
 use Rattle.draw_tables.specs.Offers.{Extends}
@@ -122,6 +122,8 @@ module _ (file : DrawFile) (table : List TeamId) where
     moves : (ms : List Move) → Extends file (pair_table table) ms → SatisfiesQuestion values (lits_of_moves file ms)
     moves [] h = tt
     moves (Drawn t ∷ ms) h = moves ms h.1
+    moves (Placed t group ∷ ms) h = absurd h.0
+    moves (Positioned t position ∷ ms) h = absurd h.0
     moves (Paired s v ∷ ms) h =
         let i = h.0 in
         let here = place_found s (runners_up file) i.0 i.1 in
@@ -133,6 +135,7 @@ module _ (file : DrawFile) (table : List TeamId) where
 
 -- the values of a legal table that extends the moves meet the rules and the moves
 pub tables_satisfy : TablesSatisfy
+tables_satisfy file ms (Group groups) kind legal extends = let clash = sym kind ∙ legal.0 in cc
 tables_satisfy file ms (Pairs pairs) kind legal extends = record {
   rules = rules file pairs.winners legal.1;
   moves = moves file pairs.winners legal.1 ms extends;

@@ -10,9 +10,9 @@ use Rattle.count_core.specs.declared.count_rule.CountRule.{CountRule}
 use Rattle.count_core.specs.Problems.{Problem}
 use Rattle.count_core.specs.Assignments.{value_of}
 use Rattle.draw_tables.specs.declared.moves.Move.{Move}
-use Rattle.draw_tables.specs.declared.moves.Move.TheVariants.{Drawn, Paired}
+use Rattle.draw_tables.specs.declared.moves.Move.TheVariants.{Drawn, Placed, Positioned, Paired}
 use Rattle.draw_tables.specs.declared.table.Table.{Table}
-use Rattle.draw_tables.specs.declared.table.Table.TheVariants.{Pairs}
+use Rattle.draw_tables.specs.declared.table.Table.TheVariants.{Group, Pairs}
 use Rattle.draw_tables.specs.Pots.{winners, runners_up}
 use Rattle.draw_tables.specs.Pairings.{may_meet}
 
@@ -82,8 +82,9 @@ rules_of file = problem_between file (runners_up file) (winners file)
 abbrev pub values_of_winners : DrawFile → List TeamId → List Bool
 values_of_winners file given = flat_map (λ g. map (λ w. w.0 == g.0) (winners file)) given
 
--- The values of a table.
+-- The values of a table; one of another kind of draw has none.
 abbrev pub values_of : DrawFile → Table → List Bool
+values_of file (Group groups) = []
 values_of file (Pairs pairs) = values_of_winners file pairs.winners
 
 -- the atom of runner-up r and one of n winners is true
@@ -103,6 +104,7 @@ pub record IsRead (values : List Bool) (m : ℕ) (ws : List TeamId) (given : Lis
 
 -- The table gives each runner-up of the file a winner whose atom is true.
 abbrev pub IsReadTable : DrawFile → List Bool → Table → Type 0
+IsReadTable file values (Group groups) = ⊥
 IsReadTable file values (Pairs pairs) =
     IsRead values (length (runners_up file)) (winners file) pairs.winners
 
@@ -112,9 +114,11 @@ IsReadTable file values (Pairs pairs) =
 abbrev pub place_of : TeamId → List TeamId → ℕ
 place_of t teams = position_or_len (λ x. x.0 == t.0) teams
 
--- a drawn ball says nothing of the table
+-- a drawn ball says nothing of the table, and a pairing has no groups and no positions
 abbrev pub lit_of_move : DrawFile → Move → Option Lit
 lit_of_move file (Drawn t) = None
+lit_of_move file (Placed t group) = None
+lit_of_move file (Positioned t position) = None
 lit_of_move file (Paired r w) =
     Some (pair_lit (length (winners file))
     (place_of r (runners_up file)) (place_of w (winners file)))

@@ -33,11 +33,12 @@ fn literals_of(alloc: Global, file: &DrawFile, moves: &[Move]) -> Result<Vec<Lit
     let runners = pot_of(alloc, file, 2)?;
     let mut literals = Vec::new(alloc);
     for step in moves {
-        if let Move::Paired(runner, winner) = *step {
-            let place = place_of(runner, &runners);
-            let other = place_of(winner, &winners);
-            literals.push(pair_lit(winners.len(), place, other))?;
-        }
+        let Move::Paired(runner, winner) = *step else {
+            continue;
+        };
+        let place = place_of(runner, &runners);
+        let other = place_of(winner, &winners);
+        literals.push(pair_lit(winners.len(), place, other))?;
     }
     Ok(literals)
 }

@@ -1,0 +1,5 @@
+pub mod Encoding
+pub mod Decoding
+pub mod Correspondence
+pub mod Laws
+pub mod Worked
