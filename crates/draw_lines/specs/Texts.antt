@@ -1,5 +1,5 @@
 -- The lines that answer a command, and the opening.
-use Rattle.std.specs.Prelude.{ℕ, List, [], ◌∷◌, ◌++◌, length, codes}
+use Rattle.std.specs.Prelude.{ℕ, ◌+◌, List, [], ◌∷◌, ◌++◌, length, codes, Option, Some, None}
 use Rattle.std.specs.Fmt.{decimal}
 use Rattle.team_files.specs.Kinds.{kind_text}
 use Rattle.team_files.specs.declared.team_id.TeamId.{TeamId}
@@ -16,9 +16,15 @@ use Rattle.draw_state.specs.declared.replies.Reply.{Reply}
 abbrev pub code_text : DrawFile → TeamId → List ℕ
 code_text file id = code_of file.teams id
 
--- a choice as a ball names it
+-- a group's letter: group 0 is A
+abbrev pub letter_text : ℕ → List ℕ
+letter_text group = (65 + group) ∷ []
+
+-- a choice: a team's code, a group's letter, or the number of a position
 abbrev pub choice_text : DrawFile → Choice → List ℕ
 choice_text file (Choice.Team id) = code_text file id
+choice_text file (Choice.Group group) = letter_text group
+choice_text file (Choice.Position position) = decimal position
 
 -- the choices, each with a space before it
 abbrev pub choices_text : DrawFile → List Choice → List ℕ
@@ -29,6 +35,9 @@ choices_text file (c ∷ cs) = 32 ∷ choice_text file c ++ choices_text file cs
 abbrev pub phase_text : DrawFile → Phase → List ℕ
 phase_text file Phase.Runner = codes "next runner-up:"
 phase_text file (Phase.Opponent runner_up) = codes "next opponent " ++ code_text file runner_up ++ codes ":"
+phase_text file (Phase.Team pot) = codes "next team pot " ++ decimal pot ++ codes ":"
+phase_text file (Phase.Group team) = []
+phase_text file (Phase.Position team) = codes "next position " ++ code_text file team ++ codes ":"
 phase_text file Phase.Complete = []
 
 -- the line that tells what comes next
@@ -46,21 +55,31 @@ refusal_text Refusal.Complete = codes "refused complete\n"
 refusal_text Refusal.Phase = codes "refused phase\n"
 refusal_text Refusal.Excluded = codes "refused excluded\n"
 
--- the line of a move
-abbrev pub move_text : DrawFile → Move → List ℕ
-move_text file (Move.Drawn id) = codes "drawn " ++ code_text file id ++ codes "\n"
-move_text file (Move.Paired runner_up winner) = codes "paired " ++ code_text file runner_up ++ codes " " ++ code_text file winner ++ codes "\n"
+-- the line of a team that got its position: its code, and the letter of its group with the position,
+-- as A2; it is written where the group is told
+abbrev pub stands_text : DrawFile → TeamId → Option ℕ → ℕ → List ℕ
+stands_text file id None position = []
+stands_text file id (Some group) position =
+    codes "stands " ++ code_text file id ++ codes " " ++ letter_text group ++ decimal position ++ codes "\n"
+
+-- the line of a move, beside which a group is told or not
+abbrev pub move_text : DrawFile → Option ℕ → Move → List ℕ
+move_text file told (Move.Drawn id) = codes "drawn " ++ code_text file id ++ codes "\n"
+move_text file told (Move.Placed id group) =
+    codes "placed " ++ code_text file id ++ codes " " ++ letter_text group ++ codes "\n"
+move_text file told (Move.Positioned id position) = stands_text file id told position
+move_text file told (Move.Paired runner_up winner) = codes "paired " ++ code_text file runner_up ++ codes " " ++ code_text file winner ++ codes "\n"
 
 -- the line of a ball is that of the last move that it added
-abbrev pub ball_text : DrawFile → List Move → List ℕ
-ball_text file [] = []
-ball_text file (m ∷ []) = move_text file m
-ball_text file (m ∷ n ∷ ms) = ball_text file (n ∷ ms)
+abbrev pub ball_text : DrawFile → Option ℕ → List Move → List ℕ
+ball_text file told [] = []
+ball_text file told (m ∷ []) = move_text file told m
+ball_text file told (m ∷ n ∷ ms) = ball_text file told (n ∷ ms)
 
 -- The lines of a reply.
 abbrev pub reply_text : DrawFile → Reply → List ℕ
 reply_text file (Reply.Refused refusal) = refusal_text refusal
-reply_text file (Reply.Taken moves next) = ball_text file moves ++ next_text file next
+reply_text file (Reply.Taken moves group next) = ball_text file group moves ++ next_text file next
 
 -- The opening: the kind, the number of teams, and what comes next.
 abbrev pub opening_text : DrawFile → NextLine → List ℕ

@@ -1,16 +1,17 @@
-ghost use Rattle.std.specs.Prelude.{◌≡◌, ◌++◌, IfOk, OnOk};
+ghost use Rattle.std.specs.Prelude.{◌≡◌, ◌+◌, ◌<◌, ◌≤◌, ◌++◌, codes, IfOk, IfSome, OnOk, Some, None};
+ghost use Rattle.std.specs.Fmt.{decimal};
 ghost use Rattle.draw_tables.specs.declared.moves.Move.{Move as MoveValue};
 ghost use Rattle.draw_tables.specs.Names.{AreFileChoices, IsFileChoice};
 ghost use Rattle.draw_tables.specs.Names.{AreFileMoves, IsFileMove, IsFilePhase};
 ghost use Rattle.draw_tables.specs.Pots.{IsTeamOf};
-ghost use Rattle.draw_state.specs.Replies.{IsFileNextLine, IsFileReply, WaitsForBall};
+ghost use Rattle.draw_state.specs.Replies.{IsFileGroup, IsFileNextLine, IsFileReply, WaitsForBall};
 ghost use Rattle.draw_lines.specs.Texts.{code_text, choice_text, choices_text, phase_text};
-ghost use Rattle.draw_lines.specs.Texts.{next_text, refusal_text, move_text, ball_text};
+ghost use Rattle.draw_lines.specs.Texts.{next_text, refusal_text, stands_text, move_text, ball_text};
 ghost use Rattle.draw_lines.specs.Texts.{reply_text, opening_text};
 
 use draw_state::{NextLine, Refusal, Reply};
 use draw_tables::{Choice, Move, Phase};
-use rule_sets::DrawFile;
+use rule_sets::{DrawFile, law_files_have_form};
 use std::alloc::{AllocError, Global};
 use team_files::TeamId;
 
@@ -21,10 +22,10 @@ pub fn reply_text(alloc: Global, file: &DrawFile, reply: &Reply) -> Result<Vec<u
 {
     match reply {
         Reply::Refused(refusal) => Vec::from_slice(alloc, refusal_text(*refusal).as_bytes()),
-        Reply::Taken { moves, next } => {
+        Reply::Taken { moves, group, next } => {
             let mut text = Vec::new(alloc);
-            add_ball(&mut text, file, moves.as_slice())?;
-            add_next(&mut text, file, next)?;
+            add_ball(alloc, &mut text, file, moves.as_slice(), *group)?;
+            add_next(alloc, &mut text, file, next)?;
             Ok(text)
         }
     }
@@ -39,7 +40,7 @@ pub fn opening_text(alloc: Global, file: &DrawFile, next: &NextLine) -> Result<V
     let number = file.teams().number();
     let first = format!(in alloc; "draw {kind} {number} teams\n")?;
     let mut text = first.into_bytes();
-    add_next(&mut text, file, next)?;
+    add_next(alloc, &mut text, file, next)?;
     Ok(text)
 }
 
@@ -57,36 +58,100 @@ fn refusal_text(refusal: Refusal) -> &'static str
     }
 }
 
-/// Writes the line of a ball: that of the last move that it added.
-fn add_ball(text: &mut Vec<u8>, file: &DrawFile, moves: &[Move]) -> Result<(), AllocError>
+/// Writes the line of a ball: that of the last move that it added. `told` is the group that the
+/// reply tells.
+fn add_ball(
+    alloc: Global,
+    text: &mut Vec<u8>,
+    file: &DrawFile,
+    moves: &[Move],
+    told: Option<u32>,
+) -> Result<(), AllocError>
     requires moves { AreFileMoves file.now moves.now }
-    ensures { OnOk result (text.new.items ≡ text.old.items ++ ball_text file.now moves.now) }
+    requires told { IsFileGroup file.now moves.now told }
+    ensures { OnOk result (text.new.items
+        ≡ text.old.items ++ ball_text file.now told moves.now) }
 {
     let Some((last, _)) = moves.split_last() else {
         return Ok(());
     };
-    add_move(text, file, *last)
+    add_move(alloc, text, file, *last, told)
 }
 
 /// Writes the line of a move.
-fn add_move(text: &mut Vec<u8>, file: &DrawFile, added: Move) -> Result<(), AllocError>
-    requires { IsFileMove file.now added }
-    ensures { OnOk result (text.new.items ≡ text.old.items ++ move_text file.now added) }
+fn add_move(
+    alloc: Global,
+    text: &mut Vec<u8>,
+    file: &DrawFile,
+    added: Move,
+    told: Option<u32>,
+) -> Result<(), AllocError>
+    requires of_file { IsFileMove file.now added }
+    requires told { IfSome told (λ group. group < file.now.groups) }
+    ensures { OnOk result (text.new.items ≡ text.old.items ++ move_text file.now told added) }
 {
-    match added {
-        Move::Drawn(team) => add_drawn(text, file, team),
-        Move::Paired(runner, winner) => add_paired(text, file, runner, winner),
+    match (added, told) {
+        (Move::Drawn(team), _) => add_drawn(text, file, team),
+        (Move::Placed(team, group), _) => add_placed(text, file, team, group),
+        (Move::Positioned(team, position), Some(group)) => {
+            add_stands(alloc, text, file, team, group, position)
+        }
+        (Move::Positioned(_, _), None) => Ok(()),
+        (Move::Paired(runner, winner), _) => add_paired(text, file, runner, winner),
     }
 }
 
-/// Writes the line of a runner-up's ball.
+/// Writes the line of a team's ball after which nothing came of itself.
 fn add_drawn(text: &mut Vec<u8>, file: &DrawFile, team: TeamId) -> Result<(), AllocError>
     requires team { IsTeamOf file.now team }
     ensures { OnOk result (text.new.items
-        ≡ text.old.items ++ move_text file.now (MoveValue.Drawn team)) }
+        ≡ text.old.items ++ move_text file.now None (MoveValue.Drawn team)) }
 {
     text.extend_from_slice(b"drawn ")?;
     text.extend_from_slice(code_text(file, team).as_bytes())?;
+    text.push(b'\n')?;
+    Ok(())
+}
+
+/// Writes the line of a team that took a group.
+fn add_placed(
+    text: &mut Vec<u8>,
+    file: &DrawFile,
+    team: TeamId,
+    group: u32,
+) -> Result<(), AllocError>
+    requires team { IsTeamOf file.now team }
+    requires group { group < file.now.groups }
+    ensures { OnOk result (text.new.items
+        ≡ text.old.items ++ move_text file.now None (MoveValue.Placed team group)) }
+{
+    text.extend_from_slice(b"placed ")?;
+    text.extend_from_slice(code_text(file, team).as_bytes())?;
+    text.push(b' ')?;
+    text.push(letter_of(file, group))?;
+    text.push(b'\n')?;
+    Ok(())
+}
+
+/// Writes the line of a team that got a position of its group.
+fn add_stands(
+    alloc: Global,
+    text: &mut Vec<u8>,
+    file: &DrawFile,
+    team: TeamId,
+    group: u32,
+    position: u32,
+) -> Result<(), AllocError>
+    requires team { IsTeamOf file.now team }
+    requires group { group < file.now.groups }
+    ensures { OnOk result (text.new.items
+        ≡ text.old.items ++ stands_text file.now team (Some group) position) }
+{
+    text.extend_from_slice(b"stands ")?;
+    text.extend_from_slice(code_text(file, team).as_bytes())?;
+    text.push(b' ')?;
+    text.push(letter_of(file, group))?;
+    add_number(alloc, text, position)?;
     text.push(b'\n')?;
     Ok(())
 }
@@ -101,7 +166,7 @@ fn add_paired(
     requires runner { IsTeamOf file.now runner }
     requires winner { IsTeamOf file.now winner }
     ensures { OnOk result (text.new.items
-        ≡ text.old.items ++ move_text file.now (MoveValue.Paired runner winner)) }
+        ≡ text.old.items ++ move_text file.now None (MoveValue.Paired runner winner)) }
 {
     text.extend_from_slice(b"paired ")?;
     text.extend_from_slice(code_text(file, runner).as_bytes())?;
@@ -112,14 +177,19 @@ fn add_paired(
 }
 
 /// Writes the line of what comes next.
-fn add_next(text: &mut Vec<u8>, file: &DrawFile, next: &NextLine) -> Result<(), AllocError>
+fn add_next(
+    alloc: Global,
+    text: &mut Vec<u8>,
+    file: &DrawFile,
+    next: &NextLine,
+) -> Result<(), AllocError>
     requires teams { IsFileNextLine file.now next.now }
     ensures { OnOk result (text.new.items ≡ text.old.items ++ next_text file.now next.now) }
 {
     match next {
         NextLine::Choices { phase, choices } => {
-            add_phase(text, file, *phase)?;
-            add_choices(text, file, choices.as_slice())?;
+            add_phase(alloc, text, file, *phase)?;
+            add_choices(alloc, text, file, choices.as_slice())?;
             text.push(b'\n')?;
             Ok(())
         }
@@ -129,7 +199,12 @@ fn add_next(text: &mut Vec<u8>, file: &DrawFile, next: &NextLine) -> Result<(), 
 }
 
 /// Writes the start of the line that tells a phase.
-fn add_phase(text: &mut Vec<u8>, file: &DrawFile, phase: Phase) -> Result<(), AllocError>
+fn add_phase(
+    alloc: Global,
+    text: &mut Vec<u8>,
+    file: &DrawFile,
+    phase: Phase,
+) -> Result<(), AllocError>
     requires waits { WaitsForBall phase }
     requires of_file { IsFilePhase file.now phase }
     ensures { OnOk result (text.new.items ≡ text.old.items ++ phase_text file.now phase) }
@@ -142,30 +217,88 @@ fn add_phase(text: &mut Vec<u8>, file: &DrawFile, phase: Phase) -> Result<(), Al
             text.push(b':')?;
             Ok(())
         }
-        Phase::Complete => unreachable!(),
+        Phase::Team { pot } => add_team_phase(alloc, text, pot),
+        Phase::Position { team } => {
+            text.extend_from_slice(b"next position ")?;
+            text.extend_from_slice(code_text(file, team).as_bytes())?;
+            text.push(b':')?;
+            Ok(())
+        }
+        Phase::Group { team: _ } | Phase::Complete => unreachable!(),
     }
 }
 
+/// Writes the start of the line that tells that a team of the pot comes next.
+fn add_team_phase(alloc: Global, text: &mut Vec<u8>, pot: u32) -> Result<(), AllocError>
+    ensures { OnOk result (text.new.items
+        ≡ text.old.items ++ codes "next team pot " ++ decimal pot ++ codes ":") }
+{
+    text.extend_from_slice(b"next team pot ")?;
+    add_number(alloc, text, pot)?;
+    text.push(b':')?;
+    Ok(())
+}
+
 /// Writes each choice, with a space before it.
-fn add_choices(text: &mut Vec<u8>, file: &DrawFile, choices: &[Choice]) -> Result<(), AllocError>
+fn add_choices(
+    alloc: Global,
+    text: &mut Vec<u8>,
+    file: &DrawFile,
+    choices: &[Choice],
+) -> Result<(), AllocError>
     requires teams { AreFileChoices file.now choices.now }
     ensures { OnOk result (text.new.items ≡ text.old.items ++ choices_text file.now choices.now) }
 {
     for choice in choices {
         text.push(b' ')?;
-        text.extend_from_slice(choice_text(file, *choice).as_bytes())?;
+        add_choice(alloc, text, file, *choice)?;
     }
     Ok(())
 }
 
-/// A choice as a ball names it.
-fn choice_text(file: &DrawFile, choice: Choice) -> &str
+/// Writes a choice: a team's code, a group's letter, or the number of a position.
+fn add_choice(
+    alloc: Global,
+    text: &mut Vec<u8>,
+    file: &DrawFile,
+    choice: Choice,
+) -> Result<(), AllocError>
     requires { IsFileChoice file.now choice }
-    ensures { result.now ≡ choice_text file.now choice }
+    ensures { OnOk result (text.new.items ≡ text.old.items ++ choice_text file.now choice) }
 {
     match choice {
-        Choice::Team(team) => code_text(file, team),
+        Choice::Team(team) => text.extend_from_slice(code_text(file, team).as_bytes()),
+        Choice::Group(group) => {
+            text.push(letter_of(file, group))?;
+            Ok(())
+        }
+        Choice::Position(position) => add_number(alloc, text, position),
     }
+}
+
+/// Writes a number by its decimal digits.
+fn add_number(alloc: Global, text: &mut Vec<u8>, number: u32) -> Result<(), AllocError>
+    ensures { OnOk result (text.new.items ≡ text.old.items ++ decimal number) }
+{
+    let digits = format!(in alloc; "{number}")?;
+    text.extend_from_slice(digits.as_bytes())
+}
+
+/// The letter of a group: group 0 is A.
+fn letter_of(file: &DrawFile, group: u32) -> u8
+    requires { group < file.now.groups }
+    ensures { result ≡ 65 + group }
+{
+    expect_few_groups(file);
+    b'A' + group as u8
+}
+
+/// That there is a letter for each group of the file.
+fn expect_few_groups(file: &DrawFile)
+    ensures { file.now.groups ≤ 26 }
+{
+    file.kind();
+    law_files_have_form();
 }
 
 /// The code of a team.

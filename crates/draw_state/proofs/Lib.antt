@@ -3,6 +3,17 @@
 pub mod Refusals
 -- of each command exactly one thing is true
 pub mod Outcomes
+-- ---- group draws
+-- what the phase of a group draw says of the moves
+pub mod GroupPhases
+-- a team that waits for its group has a first possible one
+pub mod FirstGroups
 -- ---- steps and runs
--- what a ball adds, next lines, steps and runs
+-- what an accepted ball adds
+pub mod Added
+-- the group that a reply tells
+pub mod ToldGroups
+-- taking off the last ball
+pub mod TakenOff
+-- next lines, steps and runs
 pub mod Steps

@@ -25,8 +25,25 @@ same_choice (Choice.Team a) (Choice.Team b) = from (same_number a.0 b.0)
     from : (a.0 ≡ b.0) ⊎ (a.0 ≡ b.0 → ⊥) → (Choice.Team a ≡ Choice.Team b) ⊎ (Choice.Team a ≡ Choice.Team b → ⊥)
     from (inl e) = inl (ap (λ n. Choice.Team (record { 0 = n })) e)
     from (inr n) = inr (λ e. let same : a ≡ b = cc in n (ap (λ t. t.0) same))
+same_choice (Choice.Group a) (Choice.Group b) = from (same_number a b)
+  where
+    from : (a ≡ b) ⊎ (a ≡ b → ⊥) → (Choice.Group a ≡ Choice.Group b) ⊎ (Choice.Group a ≡ Choice.Group b → ⊥)
+    from (inl e) = inl (ap (λ n. Choice.Group n) e)
+    from (inr n) = inr (λ e. n cc)
+same_choice (Choice.Position a) (Choice.Position b) = from (same_number a b)
+  where
+    from : (a ≡ b) ⊎ (a ≡ b → ⊥) → (Choice.Position a ≡ Choice.Position b) ⊎ (Choice.Position a ≡ Choice.Position b → ⊥)
+    from (inl e) = inl (ap (λ n. Choice.Position n) e)
+    from (inr n) = inr (λ e. n cc)
+same_choice (Choice.Team a) (Choice.Group b) = inr (λ e. cc)
+same_choice (Choice.Team a) (Choice.Position b) = inr (λ e. cc)
+same_choice (Choice.Group a) (Choice.Team b) = inr (λ e. cc)
+same_choice (Choice.Group a) (Choice.Position b) = inr (λ e. cc)
+same_choice (Choice.Position a) (Choice.Team b) = inr (λ e. cc)
+same_choice (Choice.Position a) (Choice.Group b) = inr (λ e. cc)
 
-is_among : (c : Choice) (cs : List Choice) → IsAmong cs c ⊎ (IsAmong cs c → ⊥)
+-- a choice stands in a list or not
+pub is_among : (c : Choice) (cs : List Choice) → IsAmong cs c ⊎ (IsAmong cs c → ⊥)
 is_among c [] = inr (λ h. let e = h.1 in cc)
 is_among c (d ∷ cs) = from (same_choice d c) (is_among c cs)
   where
@@ -93,6 +110,9 @@ module _ (file : DrawFile) (ms : List Move) (answered : ℕ) (command : Command)
       in_phase c names Phase.Complete e = (Err Refusal.Complete, for_complete file ms answered command below word ball c names e)
       in_phase c names Phase.Runner e = of_choice c names (λ end. cc) (is_among c (candidates file ms))
       in_phase c names (Phase.Opponent r) e = of_choice c names (λ end. cc) (is_among c (candidates file ms))
+      in_phase c names (Phase.Team pot) e = of_choice c names (λ end. cc) (is_among c (candidates file ms))
+      in_phase c names (Phase.Group t) e = of_choice c names (λ end. cc) (is_among c (candidates file ms))
+      in_phase c names (Phase.Position t) e = of_choice c names (λ end. cc) (is_among c (candidates file ms))
 
       of_word : (o : Option Choice) → choice_of file word ≡ o → Outcome
       of_word None e = (Err Refusal.Unknown, for_unknown file ms answered command below word ball e)

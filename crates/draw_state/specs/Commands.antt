@@ -1,5 +1,5 @@
 -- One command: what refuses it, which cause is told, and what an accepted ball adds.
-use Rattle.std.specs.Prelude.{◌≡◌, ◌≤◌, ◌⊎◌, ℕ, List, [], ◌∷◌, ◌++◌, Option, Some, None, option_map, Result, Ok, Err}
+use Rattle.std.specs.Prelude.{◌≡◌, ◌<◌, ◌≤◌, nat_le, ◌⊎◌, ◌&&◌, if◌then◌else◌, ℕ, List, [], ◌∷◌, ◌++◌, Option, Some, None, option_map, Result, Ok, Err}
 use Rattle.team_files.specs.declared.kind.Kind.{Kind}
 use Rattle.team_files.specs.Teams.{find}
 use Rattle.rule_sets.specs.Files.{DrawFile}
@@ -16,8 +16,11 @@ use Rattle.draw_state.specs.declared.replies.Refusal.{Refusal}
 
 -- ---- what a command asks for
 
--- the choice that a number names; in a pairing none
+-- the choice that a number names: in a group draw a position, from 1 to the number of pots; in a
+-- pairing none
 abbrev pub choice_of_number : Kind → DrawFile → ℕ → Option Choice
+choice_of_number Kind.Group file n =
+    if nat_le 1 n && nat_le n file.pots then Some (Choice.Position n) else None
 choice_of_number Kind.Pairing file n = None
 
 -- the choice that a ball's word names: a code names the team that has it
@@ -106,10 +109,20 @@ IsOutcome file ms answered command (Err refusal) = IsRefusedCommand file ms answ
 
 -- ---- what an accepted ball adds
 
--- the moves that a phase adds without a ball of its own; a phase that waits for a ball adds none
+-- The group is the first possible one, by letter, after the moves.
+pub record IsFirstPossibleGroup (file : DrawFile) (ms : List Move) (group : ℕ) : Type 0 where
+  pub possible : IsPossible file ms (Choice.Group group)
+  pub before : (other : ℕ) → other < group → ¬ IsPossible file ms (Choice.Group other)
+
+-- The moves that a phase adds without a ball of its own: in the phase Group the team takes the
+-- first possible group. A phase that waits for a ball adds none.
 abbrev pub AddsOfItself : DrawFile → List Move → Phase → List Move → Type 0
 AddsOfItself file ms Phase.Runner more = more ≡ []
 AddsOfItself file ms (Phase.Opponent r) more = more ≡ []
+AddsOfItself file ms (Phase.Team pot) more = more ≡ []
+AddsOfItself file ms (Phase.Group t) more =
+    (group : ℕ) × IsFirstPossibleGroup file ms group × (more ≡ Move.Placed t group ∷ [])
+AddsOfItself file ms (Phase.Position t) more = more ≡ []
 AddsOfItself file ms Phase.Complete more = more ≡ []
 
 -- An accepted ball adds these moves: the choice's move, and then what the phase after it adds of itself.

@@ -1,5 +1,5 @@
 -- What is proved of steps and runs.
-use Rattle.std.specs.Prelude.{◌≡◌, ◌↔◌, ◌<◌, ℕ, List, Result}
+use Rattle.std.specs.Prelude.{◌≡◌, ◌↔◌, ◌<◌, ℕ, List, [], Option, Result}
 use Rattle.rule_sets.specs.Files.{DrawFile}
 use Rattle.draw_tables.specs.declared.moves.Move.{Move}
 use Rattle.draw_tables.specs.declared.moves.Choice.{Choice}
@@ -13,7 +13,7 @@ use Rattle.draw_state.specs.declared.replies.Refusal.{Refusal}
 use Rattle.draw_state.specs.declared.replies.Reply.{Reply}
 use Rattle.draw_state.specs.Commands.{most_commands, IsBallOf, IsAcceptedCommand, IsOutcome}
 use Rattle.draw_state.specs.Runs.{Reached, IsNextLine, IsStep, IsStepBelowLimit, IsRun}
-use Rattle.draw_state.specs.Replies.{IsFileNextLine, IsFileReply}
+use Rattle.draw_state.specs.Replies.{NoneWaitsForGroup, IsFileNextLine, IsFileReply}
 
 -- Of each command exactly one thing is true: after moves that have an offer, it is accepted with one action or refused
 -- for one cause.
@@ -30,8 +30,8 @@ pub record OfferedIsAccepted : Type 0 where
       → IsOffer file ms offered
       → (IsAcceptedCommand file ms answered command (Action.Ball c) ↔ ((answered < most_commands) × IsBallOf file command c × IsAmong offered c))
   pub completable : (file : DrawFile) (ms : List Move) (offered : List Choice) (answered : ℕ) (command : Command)
-      (new_ms added : List Move) (next : NextLine)
-      → IsOffer file ms offered → IsStep file ms answered command new_ms (Reply.Taken added next) → IsCompletable file new_ms
+      (new_ms added : List Move) (group : Option ℕ) (next : NextLine)
+      → IsOffer file ms offered → IsStep file ms answered command new_ms (Reply.Taken added group next) → IsCompletable file new_ms
 
 -- A command leads from a state to a state.
 abbrev pub StatesStay : Type 0
@@ -43,9 +43,14 @@ abbrev pub StepsBelowLimit : Type 0
 StepsBelowLimit = (file : DrawFile) (ms : List Move) (answered : ℕ) (command : Command) (new_ms : List Move) (reply : Reply)
     → answered < most_commands → (IsStep file ms answered command new_ms reply ↔ IsStepBelowLimit file ms command new_ms reply)
 
--- What is told in a state names teams of the file.
+-- What is told in a state is of the file. What comes next is told where no team waits for its
+-- group: none does at the opening, and none after a command.
 pub record RepliesNameTeams : Type 0 where
-  pub next : (file : DrawFile) (ms : List Move) (next : NextLine) → IsState file ms → IsNextLine file ms next → IsFileNextLine file next
+  pub opening : (file : DrawFile) → NoneWaitsForGroup file []
+  pub after : (file : DrawFile) (ms : List Move) (answered : ℕ) (command : Command) (new_ms : List Move) (reply : Reply)
+      → NoneWaitsForGroup file ms → IsStep file ms answered command new_ms reply → NoneWaitsForGroup file new_ms
+  pub next : (file : DrawFile) (ms : List Move) (next : NextLine)
+      → IsState file ms → NoneWaitsForGroup file ms → IsNextLine file ms next → IsFileNextLine file next
   pub reply : (file : DrawFile) (ms : List Move) (answered : ℕ) (command : Command) (new_ms : List Move) (reply : Reply)
       → IsState file ms → IsStep file ms answered command new_ms reply → IsFileReply file reply
 

@@ -1,7 +1,7 @@
 ghost use Rattle.std.specs.Prelude.{◌≡◌, ◌↔◌, IfOk, IfErr, IsTrue};
 ghost use Rattle.draw_tables.specs.Offers.{IsOffer};
 ghost use Rattle.draw_tables.specs.Lists.{IsAmong};
-ghost use Rattle.draw_state.specs.Commands.{choice_of};
+ghost use Rattle.draw_state.specs.Commands.{choice_of, choice_of_number};
 ghost use Rattle.draw_state.specs.Runs.{IsNextLine};
 ghost use Rattle.draw_state.specs.State.{Accepts, RefusesFor};
 
@@ -53,9 +53,30 @@ pub fn judge_command(
 fn choice_of(file: &DrawFile, word: Word) -> Option<Choice>
     ensures { result ≡ choice_of file.now word }
 {
-    match (word, file.kind()) {
-        (Word::Team(code), _) => file.teams().find(code).map(Choice::Team),
-        (Word::Number(_), Kind::Pairing) => None,
+    match word {
+        Word::Team(code) => file.teams().find(code).map(Choice::Team),
+        Word::Number(number) => choice_of_number(file, number),
+    }
+}
+
+/// The choice that a number names: a position in a group draw, none in a pairing.
+fn choice_of_number(file: &DrawFile, number: u32) -> Option<Choice>
+    ensures { result ≡ choice_of_number file.now.kind file.now number }
+{
+    match file.kind() {
+        Kind::Group => position_of_number(file, number),
+        Kind::Pairing => None,
+    }
+}
+
+/// The position that a number names, where the file has it: they count from 1.
+fn position_of_number(file: &DrawFile, number: u32) -> Option<Choice>
+    ensures { result ≡ choice_of_number Kind.Group file.now number }
+{
+    if 1 <= number && number <= file.pots() {
+        Some(Choice::Position(number))
+    } else {
+        None
     }
 }
 

@@ -22,7 +22,8 @@ pub fn law_steps_below_limit()
     ensures { StepsBelowLimit }
 {}
 
-/// The replies in a state, and what comes next in it, name teams of the file.
+/// The replies in a state, and what comes next in it, are of the file: each team, group and position
+/// that they name. At the opening and after each command no team waits for its group.
 pub fn law_replies_name_teams()
     ensures { RepliesNameTeams }
 {}

@@ -12,7 +12,7 @@ pub enum Refusal {
     Limit,
     /// The line is no command.
     Form,
-    /// The ball names no choice of the file: no team has its code, or it is a number.
+    /// The ball names no choice of the file: no team has its code, or its number is no position.
     Unknown,
     /// Nothing comes any more.
     Complete,
@@ -54,8 +54,13 @@ impl NextLine {
 pub enum Reply {
     /// The command changed nothing.
     Refused(Refusal),
-    /// The ball was accepted and added these moves.
-    Taken { moves: Moves, next: NextLine },
+    /// The ball was accepted and added these moves. `group` is the group, counted from 0, of the
+    /// team whose position the ball gave; `None` after every other ball.
+    Taken {
+        moves: Moves,
+        group: Option<u32>,
+        next: NextLine,
+    },
 }
 
 impl Reply {
@@ -65,8 +70,9 @@ impl Reply {
     {
         match self {
             Reply::Refused(refusal) => Ok(Reply::Refused(*refusal)),
-            Reply::Taken { moves, next } => Ok(Reply::Taken {
+            Reply::Taken { moves, group, next } => Ok(Reply::Taken {
                 moves: moves.clone_in(alloc)?,
+                group: *group,
                 next: next.clone_in(alloc)?,
             }),
         }

@@ -2,6 +2,7 @@ ghost use Rattle.std.specs.Prelude.{◌≡◌, ◌≢◌, ◌↔◌, [], ◌∷�
 ghost use Rattle.draw_tables.specs.declared.moves.Choice.{Choice as ChoiceValue};
 ghost use Rattle.draw_tables.specs.Names.{AreFileChoices};
 ghost use Rattle.draw_tables.specs.Lists.{IsAmong};
+ghost use Rattle.draw_state.specs.State.{TakesOffBall};
 ghost use Rattle.draw_tables.specs.States.{phase_of, candidates, move_in, IsMoveOf, IsCandidateMove, IsState};
 
 use crate::NoMemory;
@@ -114,15 +115,19 @@ impl State {
         Ok(())
     }
 
-    /// Takes off the last ball's move and gives it. `None` exactly where there are no moves. In a
-    /// pairing each ball adds one move.
+    /// Takes off the last ball with all moves that it added, and gives the ball's own move. `None`
+    /// exactly where there are no moves.
     pub fn undo(&mut self) -> Option<Move>
         ensures moves { MatchOption result
             ((self.old.moves ≡ []) × (self.new.moves ≡ []))
-            (λ m. self.old.moves ≡ self.new.moves ++ m ∷ []) }
+            (λ m. TakesOffBall self.old.moves self.new.moves m) }
         ensures file { self.new.file ≡ self.old.file }
     {
-        self.moves.pop()
+        let last = take_last(&mut self.moves)?;
+        match last {
+            Move::Placed(_, _) => take_last(&mut self.moves),
+            Move::Drawn(_) | Move::Positioned(_, _) | Move::Paired(_, _) => Some(last),
+        }
     }
 
     /// Whether both are one state: one file, and the same moves.
@@ -142,6 +147,15 @@ impl State {
             moves,
         })
     }
+}
+
+/// Takes off the last move. `None` exactly where there is none.
+fn take_last(moves: &mut Vec<Move>) -> Option<Move>
+    ensures { MatchOption result
+        ((moves.old.items ≡ []) × (moves.new.items ≡ []))
+        (λ m. moves.old.items ≡ moves.new.items ++ m ∷ []) }
+{
+    moves.pop()
 }
 
 /// Whether the moves are the same, in the same order.
@@ -171,6 +185,13 @@ fn choice_of_move(phase: Phase, next: Move) -> Option<Choice>
         (Phase::Runner, Move::Drawn(team)) => Some(Choice::Team(team)),
         (Phase::Opponent { runner }, Move::Paired(other, winner)) if other == runner => {
             Some(Choice::Team(winner))
+        }
+        (Phase::Team { pot: _ }, Move::Drawn(team)) => Some(Choice::Team(team)),
+        (Phase::Group { team }, Move::Placed(other, group)) if other == team => {
+            Some(Choice::Group(group))
+        }
+        (Phase::Position { team }, Move::Positioned(other, position)) if other == team => {
+            Some(Choice::Position(position))
         }
         _ => None,
     }

@@ -18,3 +18,6 @@ invariant_of-self-2 c =
 pub returns-clause-candidate : goal.returns-clause-candidate
 returns-clause-candidate c =
     rw (← c.self.view_is) (rw (c.deref.ensures, c.deref-2.ensures.value) at (c.is_next.ensures.0 c.if-not-is_next.false))
+
+pub returns-then-is_err-clause-no_memory : goal.returns-then-is_err-clause-no_memory
+returns-then-is_err-clause-no_memory c = λ _. rw (← c.self.view_is) (rw (c.deref.ensures, c.deref-2.ensures.value) at (c.is_next.ensures.0 c.if-not-is_next.false))
