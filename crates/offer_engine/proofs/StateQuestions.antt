@@ -1,32 +1,32 @@
 -- The questions of a state and the answers to them, by their places.
-use Rattle.std.proofs.Common.{◌≡◌, ◌≢◌, ℕ, zero, suc, ◌+◌, ◌<◌, ◌≤◌, ◌^◌, List, [], ◌∷◌, ◌++◌, length, map, Some, None, true, slice_get, refl, sym, ap, ◌∙◌, subst, ◌⊎◌, inl, inr, arith}
-use Rattle.std.specs.Option.{option_map}
+use Rattle.std.proofs.Common.{◌≡◌, ℕ, zero, suc, ◌+◌, ◌<◌, ◌≤◌, List, [], ◌∷◌, ◌++◌, length, slice_get, refl, sym, ap, ◌∙◌, subst, ◌⊎◌, inl, inr, arith}
 use Rattle.std.proofs.lemmas.Bool.{cases_lt}
-use Rattle.std.proofs.lemmas.Option.{slice_get-map, slice_get_past, slice_get-get_or}
 use Rattle.team_files.specs.declared.kind.Kind.{Kind}
 use Rattle.rule_sets.specs.Files.{DrawFile}
-use Rattle.count_core.specs.declared.lit.Lit.{Lit}
-use Rattle.count_core.specs.Problems.{are_within}
 use Rattle.draw_tables.specs.declared.moves.Move.{Move}
 use Rattle.draw_tables.specs.declared.moves.Choice.{Choice}
 use Rattle.draw_tables.specs.Lists.{IsAmong}
-use Rattle.draw_tables.specs.States.{phase_of, IsMoveOf, move_in}
-use Rattle.draw_tables.proofs.Lists.{same_item, none_among}
+use Rattle.draw_tables.specs.States.{IsMoveOf}
+use Rattle.draw_tables.proofs.Lists.{same_item}
 use Rattle.draw_state.specs.State.{State}
+use Rattle.group_draw.specs.Encoding.{rules_of as group_rules, lits_of_moves as group_lits}
 use Rattle.pairing_draw.specs.Encoding.{rules_of as pairing_rules, lits_of_moves as pairing_lits}
 use Rattle.offer_engine.specs.Encodings.{rules_by, rules_of, lits_by, lits_of}
-use Rattle.offer_engine.specs.Questions.{AddsMoveOf, AreWithin, with_move, question_of}
+use Rattle.offer_engine.specs.Questions.{AddsMoveOf, with_move, question_of}
 
 -- ---- the kind
 
-pub is_pairing : (k : Kind) → k ≡ Kind.Pairing
-is_pairing Kind.Pairing = refl
+pub group_rules_are : (file : DrawFile) → file.kind ≡ Kind.Group → rules_of file ≡ group_rules file
+group_rules_are file kind = ap (λ k. rules_by k file) kind
 
-pub rules_are : (file : DrawFile) → rules_of file ≡ pairing_rules file
-rules_are file = ap (λ k. rules_by k file) (is_pairing file.kind)
+pub group_lits_are : (file : DrawFile) (ms : List Move) → file.kind ≡ Kind.Group → lits_of file ms ≡ group_lits file ms
+group_lits_are file ms kind = ap (λ k. lits_by k file ms) kind
 
-pub lits_are : (file : DrawFile) (ms : List Move) → lits_of file ms ≡ pairing_lits file ms
-lits_are file ms = ap (λ k. lits_by k file ms) (is_pairing file.kind)
+pub pairing_rules_are : (file : DrawFile) → file.kind ≡ Kind.Pairing → rules_of file ≡ pairing_rules file
+pairing_rules_are file kind = ap (λ k. rules_by k file) kind
+
+pub pairing_lits_are : (file : DrawFile) (ms : List Move) → file.kind ≡ Kind.Pairing → lits_of file ms ≡ pairing_lits file ms
+pairing_lits_are file ms kind = ap (λ k. lits_by k file ms) kind
 
 -- ---- questions
 
@@ -38,6 +38,14 @@ question_is file ms c m move = ap (λ o. lits_of file (with_move ms o)) (sym mov
 pub question_later : (state later : State) (c : Choice) → AddsMoveOf state c later → lits_of later.file later.moves ≡ question_of state.file state.moves c
 question_later state later c h =
     ap (λ f. lits_of f later.moves) h.2 ∙ ap (λ ms. lits_of state.file ms) h.3 ∙ question_is state.file state.moves c h.0 h.1
+
+-- what holds of the moves with the choice's own holds of the state after it
+pub at_later : (P : DrawFile → List Move → Type 0) (state later : State) (c : Choice) (h : AddsMoveOf state c later) → P state.file (state.moves ++ h.0 ∷ []) → P later.file later.moves
+at_later P state later c h holds = subst (λ f. P f later.moves) (sym h.2) (subst (P state.file) (sym h.3) holds)
+
+-- and the other way round
+pub of_later : (P : DrawFile → List Move → Type 0) (state later : State) (c : Choice) (h : AddsMoveOf state c later) → P later.file later.moves → P state.file (state.moves ++ h.0 ∷ [])
+of_later P state later c h holds = subst (P state.file) h.3 (subst (λ f. P f later.moves) h.2 holds)
 
 -- ---- lists by their places
 

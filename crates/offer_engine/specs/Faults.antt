@@ -1,10 +1,10 @@
 -- When offers and turns refuse what they are handed.
-use Rattle.std.specs.Prelude.{◌≡◌, List}
+use Rattle.std.specs.Prelude.{List}
 use Rattle.draw_state.specs.State.{State}
 use Rattle.serial_search.specs.Answers.{Answering}
 use Rattle.offer_engine.specs.declared.faults.OfferFault.{OfferFault}
 use Rattle.offer_engine.specs.declared.faults.TurnFault.{TurnFault}
-use Rattle.offer_engine.specs.Questions.{questions, asked, IsFirstWrong}
+use Rattle.offer_engine.specs.Questions.{questions, IsFirstWrong}
 use Rattle.offer_engine.specs.Offers.{Offer}
 use Rattle.offer_engine.specs.Turns.{Turn, Wants, IsOfOtherState}
 

@@ -4,3 +4,4 @@ pub mod Offers
 pub mod Turns
 pub mod Courses
 pub mod Faults
+pub mod Laws

@@ -6,9 +6,10 @@ use Rattle.count_core.specs.Problems.{Problem, are_within}
 use Rattle.draw_tables.specs.declared.moves.Move.{Move}
 use Rattle.draw_tables.specs.declared.moves.Choice.{Choice}
 use Rattle.draw_tables.specs.declared.moves.Phase.{Phase}
-use Rattle.draw_tables.specs.declared.moves.Phase.TheVariants.{Runner, Opponent, Complete}
+use Rattle.draw_tables.specs.declared.moves.Phase.TheVariants.{Runner, Opponent, Team, Group, Position, Complete}
 use Rattle.draw_tables.specs.Lists.{IsAmong}
-use Rattle.draw_tables.specs.States.{phase_of, candidates, move_in, IsMoveOf}
+use Rattle.draw_tables.specs.Positions.{HasCleanPositions}
+use Rattle.draw_tables.specs.States.{phase_of, candidates, move_in, IsMoveOf, IsCandidateMove}
 use Rattle.draw_state.specs.State.{State}
 use Rattle.serial_search.specs.Answers.{Answering}
 use Rattle.offer_engine.specs.Encodings.{lits_of, rules_of}
@@ -28,11 +29,14 @@ question_in file ms phase c = lits_of file (with_move ms (move_in phase c))
 abbrev pub question_of : DrawFile → List Move → Choice → List Lit
 question_of file ms c = question_in file ms (phase_of file ms) c
 
--- The questions of a phase: one of each candidate. Where a runner-up is drawn no candidate's move
--- has a literal, so that one question, of the moves alone, stands for all.
+-- The questions of a phase: one of each candidate. Where a team or a position is drawn no
+-- candidate's move has a literal, so that one question, of the moves alone, stands for all.
 abbrev pub questions_in : DrawFile → List Move → Phase → List (List Lit)
 questions_in file ms Runner = lits_of file ms ∷ []
 questions_in file ms (Opponent r) = map (question_in file ms (Opponent r)) (candidates file ms)
+questions_in file ms (Team pot) = lits_of file ms ∷ []
+questions_in file ms (Group t) = map (question_in file ms (Group t)) (candidates file ms)
+questions_in file ms (Position t) = lits_of file ms ∷ []
 questions_in file ms Complete = []
 
 -- The questions of a state, in order.
@@ -48,6 +52,20 @@ abbrev pub AddsMoveOf : State → Choice → State → Type 0
 AddsMoveOf state c later =
     (m : Move) × IsMoveOf state.file state.moves c m × (later.file ≡ state.file)
     × (later.moves ≡ state.moves ++ m ∷ [])
+
+-- in the phase a team is drawn, whose ball says nothing of the table
+abbrev pub DrawsTeam : Phase → Type 0
+DrawsTeam Runner = Unit {0}
+DrawsTeam (Opponent r) = ⊥
+DrawsTeam (Team pot) = Unit {0}
+DrawsTeam (Group t) = ⊥
+DrawsTeam (Position t) = ⊥
+DrawsTeam Complete = ⊥
+
+-- The positions are clean with each candidate's move.
+abbrev pub MovesStayClean : DrawFile → List Move → Type 0
+MovesStayClean file ms =
+    (m : Move) → IsCandidateMove file ms m → HasCleanPositions file (ms ++ m ∷ [])
 
 -- ---- answers
 

@@ -1,7 +1,10 @@
 -- One command on a state: the offers that it needs, and the reply and the state that it leads to.
 use Rattle.std.specs.Prelude.{◌≡◌, ℕ, ◌<◌, List, [], ◌∷◌, ◌++◌, length, map}
+use Rattle.team_files.specs.declared.team_id.TeamId.{TeamId}
 use Rattle.draw_tables.specs.declared.moves.Move.{Move}
 use Rattle.draw_tables.specs.declared.moves.Choice.{Choice}
+use Rattle.draw_tables.specs.declared.moves.Phase.{Phase}
+use Rattle.draw_tables.specs.States.{phase_of}
 use Rattle.draw_state.specs.declared.commands.Command.{Command}
 use Rattle.draw_state.specs.declared.commands.Action.{Action}
 use Rattle.draw_state.specs.declared.replies.Refusal.{Refusal}
@@ -44,12 +47,20 @@ LeadsTo state command next =
     (added : List Move) × AddsBelowLimit state command added
     × (next ≡ state_with state added)
 
--- The states whose offers a command needs, in order: the one that an accepted ball leads to; none
--- where the command is refused.
+-- the states that moves lead through, one after another
+abbrev pub states_through : State → List Move → List State
+states_through state [] = []
+states_through state (m ∷ ms) =
+    state_with state (m ∷ []) ∷ states_through (state_with state (m ∷ [])) ms
+
+-- The states whose offers a command needs, in order: those that the moves of an accepted ball lead
+-- through (after a team's ball of a group draw the one in the phase Group, and then the one after
+-- it); none where the command is refused.
 abbrev pub Needs : State → Command → List State → Type 0
 Needs state command [] = IsRefusedBelowLimit state command
-Needs state command (next ∷ []) = LeadsTo state command next
-Needs state command (next ∷ other ∷ more) = ⊥
+Needs state command (next ∷ more) =
+    (added : List Move) × AddsBelowLimit state command added
+    × (next ∷ more ≡ states_through state added)
 
 -- ---- turns
 
@@ -114,3 +125,10 @@ pub record IsBegun (before : Offer) (command : Command) (turn : Turn) : Type 0 w
 pub record IsOfOtherState (turn : Turn) (offer : Offer) (moves : ℕ) : Type 0 where
   pub unwanted : ¬ Wants turn offer.state
   pub number : moves ≡ length offer.state.moves
+
+-- The offer is the first that was given, and in its state a team waits for its group.
+pub record IsGroupOffer (turn : Turn) (offer : Offer) : Type 0 where
+  pub later : List Offer
+  pub is_first : turn.given ≡ offer ∷ later
+  pub team : TeamId
+  pub waits : phase_of offer.state.file offer.state.moves ≡ Phase.Group team

@@ -1,6 +1,6 @@
-ghost use Rattle.std.specs.Prelude.{◌≡◌, ◌<◌, true, length, [], ◌∷◌, map, IfOk};
+ghost use Rattle.std.specs.Prelude.{◌≡◌, ◌<◌, true, false, length, [], ◌∷◌, map, IfOk};
 ghost use Rattle.count_core.specs.Limits.{number_limit};
-ghost use Rattle.count_core.specs.Problems.{are_within};
+ghost use Rattle.count_core.specs.Problems.{are_within, repeats};
 ghost use Rattle.draw_tables.specs.Lists.{IsAmong};
 ghost use Rattle.draw_tables.specs.States.{candidates};
 ghost use Rattle.offer_engine.specs.Encodings.{lits_of, rules_of};
@@ -8,17 +8,16 @@ ghost use Rattle.offer_engine.specs.Questions.{AddsMoveOf, AreWithin, question_o
 
 use crate::NoMemory;
 use crate::encoded::Encoded;
-use count_core::{Lits, Question};
+use count_core::{Lit, Lits, Question};
 use draw_state::{State, StateFault};
 use draw_tables::{Choice, Phase};
-use pairing_draw::lits_of;
 use rule_sets::law_files_have_form;
 use std::alloc::Global;
 use team_files::Kind;
 
 /// The questions of a state, in order: one of each candidate, the literals of the moves with its
-/// own; in the phase Runner one for all, that of the moves alone, since a drawn ball has no literal;
-/// none in the phase Complete.
+/// own; in the phases Runner, Team and Position one for all, that of the moves alone, since a drawn
+/// ball and a position have no literal; none in the phase Complete.
 pub fn questions(alloc: Global, enc: &Encoded, state: &State) -> Result<Vec<Question>, NoMemory>
     requires { state.now.file ≡ enc.now.file }
     ensures questions { IfOk result (λ v. v.items ≡ questions state.now.file state.now.moves) }
@@ -38,6 +37,9 @@ pub(crate) fn questions_of(alloc: Global, state: &State) -> Result<Vec<Question>
     match state.phase() {
         Phase::Runner => question_alone(alloc, state),
         Phase::Opponent { runner: _ } => questions_of_candidates(alloc, state),
+        Phase::Team { pot: _ } => question_alone(alloc, state),
+        Phase::Group { team: _ } => questions_of_candidates(alloc, state),
+        Phase::Position { team: _ } => question_alone(alloc, state),
         Phase::Complete => Ok(Vec::new(alloc)),
     }
 }
@@ -107,9 +109,20 @@ pub(crate) fn question_of(alloc: Global, state: &State) -> Result<Question, NoMe
     ensures question { IfOk result (λ q. q ≡ lits_of state.now.file state.now.moves) }
     ensures within { IfOk result (λ q. are_within (rules_of state.now.file).atoms q ≡ true) }
 {
-    let file = state.file();
-    let lits = match file.kind() {
-        Kind::Pairing => lits_of(alloc, file, state.moves())?,
-    };
+    let lits = lits_of(alloc, state)?;
     Ok(Question::new(Lits::new(lits)))
+}
+
+/// The literals of the moves of a state, by the kind of the draw.
+fn lits_of(alloc: Global, state: &State) -> Result<Vec<Lit>, NoMemory>
+    ensures literals { IfOk result (λ v. v.items ≡ lits_of state.now.file state.now.moves) }
+    ensures within { IfOk result (λ v.
+        are_within (rules_of state.now.file).atoms v.items ≡ true) }
+    ensures distinct { IfOk result (λ v. repeats v.items ≡ false) }
+{
+    let file = state.file();
+    match file.kind() {
+        Kind::Group => group_draw::lits_of(alloc, file, state.moves()),
+        Kind::Pairing => pairing_draw::lits_of(alloc, file, state.moves()),
+    }
 }

@@ -6,9 +6,9 @@ use draw_state::{Moves, Reply, State};
 pub(crate) enum Course {
     /// The command is refused, and the reply says so.
     Refused { reply: Reply },
-    /// A ball is accepted; the offer of the state that it leads to, with what it added, is waited
-    /// for.
+    /// A ball is accepted. The offer of a state that it leads through is waited for, with the moves
+    /// that lead to it.
     Waiting { next: State, added: Moves },
-    /// That offer was given.
+    /// All offers that it needs were given; this is the last.
     Taken { reply: Reply, after: Offer },
 }

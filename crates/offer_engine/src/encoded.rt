@@ -4,7 +4,6 @@ ghost use Rattle.offer_engine.specs.Encodings.{encoding_of, rules_of};
 
 use crate::NoMemory;
 use count_core::{Problem, SharedProblem};
-use pairing_draw::encode;
 use rule_sets::DrawFile;
 use std::alloc::Global;
 use std::marker::Model;
@@ -65,6 +64,7 @@ fn problem_of(alloc: Global, file: &DrawFile) -> Result<Problem, NoMemory>
     ensures { IfOk result (λ p. p ≡ rules_of file.now) }
 {
     match file.kind() {
-        Kind::Pairing => encode(alloc, file),
+        Kind::Group => group_draw::encode(alloc, file),
+        Kind::Pairing => pairing_draw::encode(alloc, file),
     }
 }

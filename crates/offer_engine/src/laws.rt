@@ -1,6 +1,24 @@
+ghost use Rattle.offer_engine.specs.Laws.{CleanAtStart, CleanWhereCompletable, OfferExists};
 ghost use Rattle.offer_engine.specs.Turns.{OneWanted, ReadyOrWaiting};
 
 use draw_state::law_one_outcome;
+use group_draw::law_completable_is_clean;
+
+/// Moves that can be completed have clean positions, and so have none.
+pub fn law_clean_where_completable()
+    ensures clean { CleanWhereCompletable }
+    ensures start { CleanAtStart }
+{
+    law_completable_is_clean();
+}
+
+/// Each state has an offer, be it an empty one.
+pub fn law_offer_exists()
+    ensures { OfferExists }
+{
+    group_draw::law_offer_exists();
+    pairing_draw::law_offer_exists();
+}
 
 /// A turn for which all needed offers were given wants none.
 pub fn law_ready_or_waiting()

@@ -1,19 +1,20 @@
 ghost use Rattle.std.specs.Prelude.{◌≡◌, IfOk};
 ghost use Rattle.draw_state.specs.Runs.{IsNextLine};
 ghost use Rattle.draw_tables.specs.Offers.{IsOffer};
+ghost use Rattle.draw_tables.specs.Positions.{HasCleanPositions};
 ghost use Rattle.offer_engine.specs.Offers.{IsExact, offer_with, offered};
 
 use crate::NoMemory;
 use crate::standing::Standing;
 use count_core::law_refuted_questions_fail;
 use draw_state::{Choices, NextLine, State, next_line};
-use draw_tables::Choice;
-use pairing_draw::law_tables_satisfy;
+use draw_tables::{Choice, law_held_positions};
 use std::alloc::Global;
 use std::marker::Model;
 
-/// A state with its offer, exact by its type: all candidates in order, each with a legal table that
-/// extends the moves with its own, or with a refutation of the literals of those moves. Contracts
+/// A state with its offer, exact by its type: the positions of the state are clean, and all
+/// candidates stand in order, each with a legal table that extends the moves with its own, with a
+/// refutation of the literals of those moves, or with the team that holds the position. Contracts
 /// see a record of `state` and `standings`.
 #[derive(Drop)]
 pub struct Offer {
@@ -42,7 +43,8 @@ impl Offer {
 
     /// The state.
     pub fn state(&self) -> &State
-        ensures { result.now ≡ self.now.state }
+        ensures state { result.now ≡ self.now.state }
+        ensures clean { HasCleanPositions self.now.state.file self.now.state.moves }
     {
         &self.state
     }
@@ -53,8 +55,11 @@ impl Offer {
         ensures exact { IsExact self.now }
         ensures offer { IsOffer self.now.state.file self.now.state.moves (offered result.now) }
     {
-        law_tables_satisfy();
+        self.state.file().kind();
+        group_draw::law_tables_satisfy();
+        pairing_draw::law_tables_satisfy();
         law_refuted_questions_fail();
+        law_held_positions();
         self.standings.as_slice()
     }
 

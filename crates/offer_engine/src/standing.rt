@@ -4,6 +4,7 @@ use crate::NoMemory;
 use draw_tables::Table;
 use refutations::Closed;
 use std::alloc::Global;
+use team_files::TeamId;
 
 /// How a candidate stands.
 #[derive(Drop)]
@@ -13,6 +14,9 @@ pub enum Standing {
     /// It is not possible: no assignment satisfies the rules and the literals of the moves with its
     /// own.
     Excluded(Closed),
+    /// It is a position that this team holds, so that it is not possible. No search was made for
+    /// it.
+    Held(TeamId),
 }
 
 impl Standing {
@@ -23,6 +27,7 @@ impl Standing {
         match self {
             Standing::Offered(table) => Ok(Standing::Offered(table.clone_in(alloc)?)),
             Standing::Excluded(closed) => Ok(Standing::Excluded(closed.clone_in(alloc)?)),
+            Standing::Held(holder) => Ok(Standing::Held(*holder)),
         }
     }
 }

@@ -1,9 +1,10 @@
-ghost use Rattle.std.specs.Prelude.{◌≡◌, IfOk};
+ghost use Rattle.std.specs.Prelude.{◌≡◌, IfOk, OnOk};
+ghost use Rattle.draw_tables.specs.Positions.{HasCleanPositions};
 ghost use Rattle.offer_engine.specs.Questions.{AreAnswersOf, AreOfProblem, AreWithin};
 
 use crate::{
-    Encoded, NoMemory, Offer, OfferFault, Standing, Turn, TurnFault, law_one_wanted,
-    law_ready_or_waiting, offer_from, questions,
+    Encoded, NoMemory, Offer, OfferFault, Standing, Turn, TurnFault, law_clean_where_completable,
+    law_offer_exists, law_one_wanted, law_ready_or_waiting, offer_from, questions,
 };
 use count_core::Question;
 use draw_state::{Command, NextLine, Refusal, Reply, State, Word};
@@ -14,7 +15,7 @@ use serial_search::{Answer, Session, solve};
 use std::alloc::Global;
 use std::sync::Arc;
 use std::test::Fail;
-use team_files::{Code, TeamId};
+use team_files::{Code, Kind, TeamId};
 
 /// The file of a head, with its problem.
 fn encoded(alloc: Global, head: &str) -> Result<Encoded, NoMemory> {
@@ -82,6 +83,16 @@ fn answers_to(
     Ok(answers)
 }
 
+/// Lets the state of a pairing pass, which has no positions.
+fn pass_pairing(state: &State) -> Result<(), NoMemory>
+    ensures { OnOk result (HasCleanPositions state.now.file state.now.moves) }
+{
+    match state.file().kind() {
+        Kind::Group => Err(NoMemory),
+        Kind::Pairing => Ok(()),
+    }
+}
+
 /// What comes of a state and answers to questions of another.
 fn fault_of(
     alloc: Global,
@@ -93,6 +104,7 @@ fn fault_of(
     requires state { state.now.file ≡ enc.now.file }
     requires other { other.now.file ≡ enc.now.file }
 {
+    pass_pairing(state)?;
     let answers = answers_to(alloc, enc, other, most)?;
     Ok(offer_from(alloc, enc, state, &answers).err())
 }
@@ -102,6 +114,7 @@ fn offer_at(alloc: Global, enc: &Encoded, state: &State) -> Result<Offer, NoMemo
     requires { state.now.file ≡ enc.now.file }
     ensures { IfOk result (λ o. o.state ≡ state.now) }
 {
+    pass_pairing(state)?;
     let answers = answers_to(alloc, enc, state, usize::MAX)?;
     match offer_from(alloc, enc, state, &answers) {
         Ok(offer) => Ok(offer),
@@ -184,7 +197,12 @@ fn takes(
 /// Whether the reply is that the ball added this move, and the phase comes next, with the one winner
 /// where it waits for a ball.
 fn is_taken(reply: &Reply, added: Move, next_phase: Phase) -> bool {
-    let Reply::Taken { moves, next } = reply else {
+    let Reply::Taken {
+        moves,
+        group: None,
+        next,
+    } = reply
+    else {
         return false;
     };
     let follows = match next {
@@ -304,6 +322,8 @@ fn old_offer(alloc: Global, enc: &Encoded) -> Result<Option<TurnFault>, NoMemory
 fn a_turn_wants_the_offer_after_its_ball(rt: HostRuntime) -> Result<(), Fail> {
     law_ready_or_waiting();
     law_one_wanted();
+    law_clean_where_completable();
+    law_offer_exists();
     let alloc = rt.alloc();
     let enc = encoded(alloc, TWO_TEAMS)?;
     let drawn = [Move::Drawn(RUNNER)];

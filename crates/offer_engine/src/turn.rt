@@ -1,34 +1,43 @@
-ghost use Rattle.std.specs.Prelude.{◌≡◌, ◌↔◌, length, IfErr, IfOk, IfSome, IsNone, IsSome, OnErr, OnOk};
+ghost use Rattle.std.specs.Prelude.{◌≡◌, ◌<◌, ◌↔◌, List, length, IfErr, IfOk, IfSome, IsNone, IsSome, MatchOption, OnErr, OnOk};
+ghost use Rattle.draw_tables.specs.declared.moves.Move.{Move as MoveValue};
 ghost use Rattle.draw_tables.specs.Lists.{IsAmong};
+ghost use Rattle.draw_tables.specs.Positions.{HasCleanPositions};
 ghost use Rattle.draw_tables.specs.States.{candidates};
 ghost use Rattle.draw_state.specs.declared.commands.Action.{Action as ActionValue};
+ghost use Rattle.draw_state.specs.Runs.{group_told};
 ghost use Rattle.draw_state.specs.State.{State as StateValue};
-ghost use Rattle.offer_engine.specs.Courses.{IsUngiven, TakesBall, TellsTaken};
+ghost use Rattle.offer_engine.specs.Courses.{IsUngiven, PlacesTeam, TakesBall, TakesGroup, TellsTaken, WaitsFor};
 ghost use Rattle.offer_engine.specs.Faults.{IsTurnFault};
-ghost use Rattle.offer_engine.specs.Turns.{IsBegun, IsReady, Replies, Wants, after_of, with_offer};
+ghost use Rattle.offer_engine.specs.Offers.{Offer as OfferValue};
+ghost use Rattle.offer_engine.specs.Turns.{IsBegun, IsGroupOffer, IsReady, Replies, Wants, after_of, state_with as with_moves, with_offer};
 
 use crate::NoMemory;
 use crate::asking::state_with;
 use crate::course::Course;
 use crate::faults::TurnFault;
-use crate::laws::{law_one_wanted, law_ready_or_waiting};
+use crate::laws::{
+    law_clean_where_completable, law_offer_exists, law_one_wanted, law_ready_or_waiting,
+};
 use crate::offer::Offer;
 use draw_state::{
     Action, Command, Moves, Reply, State, judge_command, law_offered_is_accepted,
     law_steps_below_limit,
 };
-use draw_tables::{Choice, law_offered_where_possible};
+use draw_tables::{Choice, Move, Phase, group_in, law_offered_where_possible};
 use rule_sets::law_files_have_form;
 use std::alloc::Global;
 use std::marker::Model;
 
-/// One command on a state, right by its type. It wants the offer of the state that the command
-/// leads to; where the command is refused it wants none. Then it has the reply. Contracts see a
-/// record of `before`, `command` and `given`, the offers that were given.
+/// One command on a state, right by its type. It wants the offer of each state that the command
+/// leads through, one after another: after a team's ball of a group draw that of the state in phase
+/// Group, and then that of the state in which the team has its group; after another ball one; where
+/// the command is refused none. Then it has the reply. Contracts see a record of `before`, `command`
+/// and `given`, the offers that were given.
 #[derive(Drop)]
 pub struct Turn {
     before: Offer,
     command: Command,
+    group: Option<Offer>,
     course: Course,
 }
 
@@ -41,10 +50,10 @@ impl Model for Turn {
     ghost view = { λ t. record {
       before = t.before;
       command = t.command;
-      given = courses.given_in t.course;
+      given = courses.given_with t.group t.course;
     } };
 
-    ghost invariant = { λ t. courses.IsCourse t.before.state t.command t.course };
+    ghost invariant = { λ t. courses.IsCourse t.before.state t.command t.group t.course };
 }
 
 impl Turn {
@@ -56,6 +65,7 @@ impl Turn {
         Ok(Turn {
             before,
             command,
+            group: None,
             course,
         })
     }
@@ -78,6 +88,8 @@ impl Turn {
     pub fn wants(&self) -> Option<&State>
         ensures wanted { IfSome result (λ next. Wants self.now next.now) }
         ensures file { IfSome result (λ next. next.now.file ≡ self.now.before.state.file) }
+        ensures clean { IfSome result (λ next. HasCleanPositions next.now.file next.now.moves) }
+        ensures few { IfSome result (λ _. length self.now.given < 2) }
         ensures ready { IsNone result ↔ IsReady self.now }
     {
         law_ready_or_waiting();
@@ -97,6 +109,7 @@ impl Turn {
         ensures fault { IfErr result (λ f. IsTurnFault self.old offer f) }
         ensures kept { OnErr result (self.new ≡ self.old) }
     {
+        law_clean_where_completable();
         law_one_wanted();
         law_ready_or_waiting();
         let Course::Waiting { next, added } = &self.course else {
@@ -106,6 +119,14 @@ impl Turn {
             let moves = number_of_moves(offer.state());
             return Err(TurnFault::WrongState { moves });
         }
+        if let Phase::Group { team: _ } = next.phase() {
+            let Ok(course) = placing(alloc, self.before.state(), &offer) else {
+                return Err(TurnFault::NoMemory);
+            };
+            self.group = Some(offer);
+            self.course = course;
+            return Ok(());
+        }
         let Ok(reply) = reply_of(alloc, added, &offer) else {
             return Err(TurnFault::NoMemory);
         };
@@ -114,6 +135,19 @@ impl Turn {
             after: offer,
         };
         Ok(())
+    }
+
+    /// The offer of the state in phase Group. `Some` exactly where the command is an accepted team's
+    /// ball of a group draw and that offer was given.
+    pub fn group(&self) -> Option<&Offer>
+        ensures { MatchOption result
+            ((offer : OfferValue) → ¬ IsGroupOffer self.now offer)
+            (λ offer. IsGroupOffer self.now offer.now) }
+    {
+        match &self.group {
+            Some(offer) => Some(offer),
+            None => None,
+        }
     }
 
     /// The reply, that of one command, which leads to the state of `after`. `Some` exactly where
@@ -155,6 +189,7 @@ impl Turn {
         let Turn {
             before,
             command: _,
+            group: _,
             course,
         } = self;
         match course {
@@ -165,13 +200,16 @@ impl Turn {
     }
 }
 
-/// What a command comes to: the refusal, or the state that its ball leads to.
+/// What a command comes to: the refusal, or that the offer of the state with its ball is waited for.
 fn course_of(alloc: Global, before: &Offer, command: &Command) -> Result<Course, NoMemory>
     ensures { IfOk result (λ course. IsUngiven before.now.state command.now course) }
 {
     law_offered_is_accepted();
     law_steps_below_limit();
     law_offered_where_possible();
+    law_clean_where_completable();
+    law_offer_exists();
+    before.state().file().kind();
     let offered = before.offered(alloc)?;
     match judge_command(before.state(), &offered, 0, *command) {
         Ok(action) => {
@@ -193,13 +231,36 @@ fn ball_of(action: Action) -> Choice
     }
 }
 
-/// The course of an accepted ball, whose state is wanted.
+/// The course of an accepted ball, which waits for the offer of the state with its move.
 fn taking(alloc: Global, state: &State, choice: Choice) -> Result<Course, NoMemory>
     requires { IsAmong (candidates state.now.file state.now.moves) choice }
     ensures { IfOk result (λ course. TakesBall state.now choice course) }
 {
     let next = state_with(alloc, state, choice)?;
-    let added = Vec::from_slice(alloc, &next.moves()[state.moves().len()..])?;
+    let course = waiting_for(alloc, state, next)?;
+    Ok(course)
+}
+
+/// The course after the offer in phase Group, which waits for that of the state in which the team has
+/// the first possible group.
+fn placing(alloc: Global, before: &State, offer: &Offer) -> Result<Course, NoMemory>
+    requires some { (next : StateValue) × TakesGroup offer.now.state next }
+    requires after { (added : List MoveValue) × (offer.now.state ≡ with_moves before.now added) }
+    ensures { IfOk result (λ course. PlacesTeam before.now offer.now.state course) }
+{
+    law_offered_where_possible();
+    let offered = offer.offered(alloc)?;
+    let next = state_with(alloc, offer.state(), offered[0])?;
+    let course = waiting_for(alloc, before, next)?;
+    Ok(course)
+}
+
+/// The course that waits for the offer of a state, with the moves that lead to it from another.
+fn waiting_for(alloc: Global, before: &State, next: State) -> Result<Course, NoMemory>
+    requires { (added : List MoveValue) × (next ≡ with_moves before.now added) }
+    ensures { IfOk result (λ course. WaitsFor before.now next course) }
+{
+    let added = Vec::from_slice(alloc, &next.moves()[before.moves().len()..])?;
     Ok(Course::Waiting {
         next,
         added: Moves::new(added),
@@ -221,5 +282,16 @@ fn reply_of(alloc: Global, added: &Moves, offer: &Offer) -> Result<Reply, NoMemo
 {
     let moves = added.clone_in(alloc)?;
     let next = offer.next(alloc)?;
-    Ok(Reply::Taken { moves, next })
+    let group = group_told(offer.state().moves(), added.as_slice());
+    Ok(Reply::Taken { moves, group, next })
+}
+
+/// The group that a reply tells: that of the team whose position the first of the added moves gives.
+fn group_told(moves: &[Move], added: &[Move]) -> Option<u32>
+    ensures { result ≡ group_told moves.now added.now }
+{
+    match added.first() {
+        Some(Move::Positioned(team, _)) => group_in(moves, *team),
+        _ => None,
+    }
 }

@@ -1,4 +1,4 @@
-use Rattle.std.proofs.Common.{◌≡◌, ◌+◌, ◌<◌, ◌++◌, [], ◌∷◌, length, map, take, get_or, Some, slice_get, arith, refl, sym, ap, ◌∙◌}
+use Rattle.std.proofs.Common.{◌++◌, [], ◌∷◌, length, get_or, arith, refl, sym, ap, ◌∙◌}
 use Rattle.std.proofs.lemmas.List.{take_more, take_all, map_push}
 use Rattle.std.proofs.lemmas.Option.{slice_get_read, slice_get-get_or}
 use Rattle.count_core.proofs.Lists.{each_push}
@@ -44,4 +44,4 @@ loop-place-preserved c =
 pub returns : goal.returns
 returns c =
     let all = c.loop-place.invariant.0 ∙ take_all c.loop-place.place c.args.choices.now c.loop-place-test.false ∙ c.requires.choices in
-    stand_apart c.args.state.now c.args.answers.now c.loop-place.standings.items all c.loop-place.invariant.1
+    stand_apart c.args.state.now c.args.answers.now c.loop-place.standings.items c.requires.clean all c.loop-place.invariant.1

@@ -1,4 +1,4 @@
-use Rattle.std.proofs.Common.{◌<◌, length, arith}
+use Rattle.std.proofs.Common.{arith}
 use Rattle.std.proofs.lemmas.List.{length-map}
 use Rattle.draw_tables.specs.States.{candidates}
 use Rattle.offer_engine.specs.Questions.{question_of}

@@ -1,4 +1,4 @@
-use Rattle.offer_engine.proofs.TurnCourses.{one_wanted}
+use Rattle.offer_engine.proofs.TurnNeeds.{one_wanted}
 use Rattle.offer_engine.proofs.laws.law_one_wanted.Goals as goal
 
 pub returns : goal.returns

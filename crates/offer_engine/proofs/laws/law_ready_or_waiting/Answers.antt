@@ -1,4 +1,4 @@
-use Rattle.offer_engine.proofs.TurnCourses.{ready_or_waiting}
+use Rattle.offer_engine.proofs.TurnNeeds.{ready_or_waiting}
 use Rattle.offer_engine.proofs.laws.law_ready_or_waiting.Goals as goal
 
 pub returns : goal.returns

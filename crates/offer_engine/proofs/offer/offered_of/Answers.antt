@@ -1,4 +1,4 @@
-use Rattle.std.proofs.Common.{◌≡◌, ◌++◌, [], ◌∷◌, sym, ap, ◌∙◌}
+use Rattle.std.proofs.Common.{◌++◌, [], ◌∷◌, sym, ap, ◌∙◌}
 use Rattle.offer_engine.proofs.Standings.{offered_more, excluded_more}
 use Rattle.offer_engine.proofs.offer.offered_of.Goals as goal
 

@@ -1,15 +1,17 @@
-use Rattle.std.proofs.Common.{◌≡◌, ◌-◌, ◌≤◌, length, take, drop, arith, length-drop, ◌∙◌, ap}
-use Rattle.std.proofs.lemmas.List.{take_all}
-use Rattle.offer_engine.proofs.TurnCourses.{takes_ball}
+use Rattle.std.proofs.Common.{[], ◌∷◌}
+use Rattle.offer_engine.specs.Turns.{state_with}
+use Rattle.offer_engine.proofs.TurnNeeds.{with_move}
+use Rattle.offer_engine.proofs.TurnCourses.{waits_alike}
 use Rattle.offer_engine.proofs.turn.taking.Goals as goal
+
+pub waiting_for-requires : goal.waiting_for-requires
+waiting_for-requires c =
+    let adds = c.in_ok-next.ensures in
+    (adds.0 ∷ [], with_move c.args.state.now c.in_ok-next.next adds.0 adds.2 adds.3)
 
 pub returns : goal.returns
 returns c =
+    let adds = c.in_ok-next.ensures in
     let state = c.args.state.now in
-    let next = c.in_ok-next.next in
-    let n = length state.moves in
-    let rest = drop n next.moves in
-    let few : length rest ≤ length next.moves - n = omega (arith, length-drop n next.moves) in
-    let all : take (length next.moves - n) rest ≡ rest = take_all (length next.moves - n) rest few in
-    let items : c.in_ok-added.added.items ≡ rest = (rw (c.moves.ensures, c.moves-2.ensures) at c.in_ok-added.ensures.items) ∙ all in
-    takes_ball state next c.args.choice c.new.result c.in_ok-next.ensures (c.new.ensures ∙ items)
+    let is = with_move state c.in_ok-next.next adds.0 adds.2 adds.3 in
+    (adds.0, adds.1, waits_alike state c.in_ok-next.next (state_with state (adds.0 ∷ [])) c.in_ok-course.course is c.in_ok-course.ensures)

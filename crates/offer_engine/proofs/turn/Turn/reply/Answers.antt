@@ -7,32 +7,32 @@ use Rattle.offer_engine.proofs.turn.Turn.reply.Goals as goal
 pub returns-in-Refused-clause-reply : goal.returns-in-Refused-clause-reply
 returns-in-Refused-clause-reply c =
     let t = c.self.inside in
-    at_course (λ u. Replies u c.in-Refused.reply) c.args.self.now t.before t.command t.course (Refused c.in-Refused.reply) c.self.view_is c.in-Refused.is c.self.invariant
-    (refused_replies t.before t.command c.in-Refused.reply)
+    at_course (λ u. Replies u c.in-Refused.reply) c.args.self.now t.before t.command t.group t.course (Refused c.in-Refused.reply) c.self.view_is c.in-Refused.is c.self.invariant
+    (refused_replies t.before t.command t.group c.in-Refused.reply)
 
 pub returns-in-Refused-clause-ready : goal.returns-in-Refused-clause-ready
 returns-in-Refused-clause-ready c =
     let t = c.self.inside in
-    let ready = at_course IsReady c.args.self.now t.before t.command t.course (Refused c.in-Refused.reply) c.self.view_is c.in-Refused.is c.self.invariant
-    (refused_ready t.before t.command c.in-Refused.reply) in
+    let ready = at_course IsReady c.args.self.now t.before t.command t.group t.course (Refused c.in-Refused.reply) c.self.view_is c.in-Refused.is c.self.invariant
+    (refused_ready t.before t.command t.group c.in-Refused.reply) in
     (λ _. ready, λ _. refl)
 
 pub returns-in-Waiting-clause-ready : goal.returns-in-Waiting-clause-ready
 returns-in-Waiting-clause-ready c =
     let t = c.self.inside in
-    let wants = at_course (λ u. Wants u c.in-Waiting.next) c.args.self.now t.before t.command t.course (Waiting c.in-Waiting.next c.in-Waiting.added) c.self.view_is c.in-Waiting.is c.self.invariant
-    (waiting_wants t.before t.command c.in-Waiting.next c.in-Waiting.added) in
+    let wants = at_course (λ u. Wants u c.in-Waiting.next) c.args.self.now t.before t.command t.group t.course (Waiting c.in-Waiting.next c.in-Waiting.added) c.self.view_is c.in-Waiting.is c.self.invariant
+    (waiting_wants t.before t.command t.group c.in-Waiting.next c.in-Waiting.added) in
     (λ e. cc, λ ready. absurd (c.law_ready_or_waiting.ensures c.args.self.now c.in-Waiting.next ready wants))
 
 pub returns-in-Taken-clause-reply : goal.returns-in-Taken-clause-reply
 returns-in-Taken-clause-reply c =
     let t = c.self.inside in
-    at_course (λ u. Replies u c.in-Taken.reply) c.args.self.now t.before t.command t.course (Taken c.in-Taken.reply c.in-Taken.after) c.self.view_is c.in-Taken.is c.self.invariant
-    (taken_replies t.before t.command c.in-Taken.reply c.in-Taken.after)
+    at_course (λ u. Replies u c.in-Taken.reply) c.args.self.now t.before t.command t.group t.course (Taken c.in-Taken.reply c.in-Taken.after) c.self.view_is c.in-Taken.is c.self.invariant
+    (taken_replies t.before t.command t.group c.in-Taken.reply c.in-Taken.after)
 
 pub returns-in-Taken-clause-ready : goal.returns-in-Taken-clause-ready
 returns-in-Taken-clause-ready c =
     let t = c.self.inside in
-    let ready = at_course IsReady c.args.self.now t.before t.command t.course (Taken c.in-Taken.reply c.in-Taken.after) c.self.view_is c.in-Taken.is c.self.invariant
-    (taken_ready t.before t.command c.in-Taken.reply c.in-Taken.after) in
+    let ready = at_course IsReady c.args.self.now t.before t.command t.group t.course (Taken c.in-Taken.reply c.in-Taken.after) c.self.view_is c.in-Taken.is c.self.invariant
+    (taken_ready t.before t.command t.group c.in-Taken.reply c.in-Taken.after) in
     (λ _. ready, λ _. refl)
