@@ -1,8 +1,7 @@
 -- The answer text is a function of the input.
 use Rattle.std.proofs.Common.{◌≡◌, ℕ, List, [], ◌++◌, map, refl, sym, ap, ◌∙◌, subst, Ok}
-use Rattle.team_files.specs.declared.kind.Kind.{Kind}
 use Rattle.team_files.specs.Heads.{Head, head_of as read_head}
-use Rattle.rule_sets.specs.Files.{DrawFile, file_of, IsFileOf}
+use Rattle.rule_sets.specs.Files.{DrawFile, file_of, IsWellFormed, IsFileOf}
 use Rattle.draw_tables.specs.declared.moves.Move.{Move}
 use Rattle.draw_tables.specs.declared.moves.Choice.{Choice}
 use Rattle.draw_tables.specs.States.{IsState}
@@ -12,7 +11,7 @@ use Rattle.draw_lines.specs.Inputs.{command_lines}
 use Rattle.draw_lines.specs.Words.{command_of}
 use Rattle.draw_lines.specs.Texts.{opening_text}
 use Rattle.draw_lines.specs.Answers.{replies_text, IsAnswer}
-use Rattle.pairing_draw.proofs.Existence.{offer_exists}
+use Rattle.offer_engine.specs.Laws.{OfferExists}
 use Rattle.draw_top.proofs.WhatWasRead.{both, excluded}
 use Rattle.draw_top.specs.Laws.{OneAnswer, AnswerExists, AnswerOrRefusal}
 
@@ -43,19 +42,15 @@ one_answer input t u h g =
 
 -- ---- at least one
 
--- each state of a file has an offer, by the kind of the draw
-offers : (file : DrawFile) (ms : List Move) → IsState file ms → (offered : List Choice) × IsOffer file ms offered
-offers file ms state = by_kind file.kind refl
-  where
-    by_kind : (kind : Kind) → file.kind ≡ kind → (offered : List Choice) × IsOffer file ms offered
-    by_kind Kind.Pairing is = offer_exists file ms is state
-
-pub answer_exists : AnswerExists
-answer_exists input has =
+pub answer_exists : OfferExists → AnswerExists
+answer_exists offers input has =
     let file = has.0 in
-    let first = offers file [] tt in
+    let read = has.1.1 in
+    let formed : IsWellFormed file = (has.1.0, (read.0, read.2), has.1.2) in
+    let offer : (ms : List Move) → IsState file ms → (offered : List Choice) × IsOffer file ms offered = λ ms state. offers file ms formed state in
+    let first = offer [] tt in
     let next = some_next file [] first.0 first.1 in
-    let run = some_run file (offers file) [] 0 (map command_of (command_lines input)) tt in
+    let run = some_run file offer [] 0 (map command_of (command_lines input)) tt in
     (opening_text file next.0 ++ replies_text file run.0, (file, has.1, (next.0, run.0, record { opens = next.1; runs = run.1; whole = refl })))
 
 -- ---- not both

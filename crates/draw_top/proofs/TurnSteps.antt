@@ -10,7 +10,9 @@ use Rattle.draw_state.specs.declared.commands.Command.{Command}
 use Rattle.draw_state.specs.declared.replies.Reply.{Reply}
 use Rattle.draw_state.specs.State.{State}
 use Rattle.draw_state.specs.Commands.{most_commands}
+use Rattle.draw_state.specs.Replies.{NoneWaitsForGroup}
 use Rattle.draw_state.specs.Runs.{IsStep, IsStepBelowLimit}
+use Rattle.draw_state.specs.Laws.{RepliesNameTeams}
 use Rattle.offer_engine.specs.Offers.{Offer}
 use Rattle.offer_engine.specs.Questions.{AreAnswersOf}
 use Rattle.offer_engine.specs.Turns.{Turn as CommandTurn, Replies, after_of}
@@ -31,7 +33,7 @@ answers_push problem (y ∷ ys) a all own x (suc k, e) = answers_push problem ys
 -- a refused command leaves the moves as they are
 refused_stays : (file : DrawFile) (ms new_ms : List Move) (n : ℕ) (command : Command) (reply : Reply) → IsStep file ms n command new_ms reply → IsRefusal reply → new_ms ≡ ms
 refused_stays file ms new_ms n command (Reply.Refused refusal) step h = step.1
-refused_stays file ms new_ms n command (Reply.Taken added next) step h = absurd h
+refused_stays file ms new_ms n command (Reply.Taken added group next) step h = absurd h
 
 -- ---- the reply
 
@@ -64,3 +66,12 @@ module _ (old : Turn) (here : Offer) (view : turn_at here ≡ old) where
         let R : DrawFile → List Move → Turn = λ f ms. record { file = f; moves = ms } in
         let of_file : after.state.file ≡ old.file = file ∙ ap (λ o. o.state.file) same ∙ ap (λ t. t.file) view in
         ap (λ f. R f after.state.moves) of_file ∙ ap (R old.file) (refused_stays old.file old.moves after.state.moves n command reply step refused)
+
+    -- after a step from a turn in which no team waits for its group none does either
+    pub none_waits : RepliesNameTeams → NoneWaitsForGroup here.state.file here.state.moves → after.state.file ≡ before.state.file
+        → IsStep old.file old.moves n command after.state.moves reply → NoneWaitsForGroup after.state.file after.state.moves
+    none_waits law none file step =
+        let before_none : NoneWaitsForGroup old.file old.moves = subst (λ (t : Turn). NoneWaitsForGroup t.file t.moves) view none in
+        let later = law.after old.file old.moves n command after.state.moves reply before_none step in
+        let of_file : after.state.file ≡ old.file = file ∙ ap (λ o. o.state.file) same ∙ ap (λ t. t.file) view in
+        subst (λ f. NoneWaitsForGroup f after.state.moves) (sym of_file) later

@@ -26,4 +26,4 @@ IsReplyTo old new answered line text =
 -- the reply tells that the command is refused
 abbrev pub IsRefusal : Reply → Type 0
 IsRefusal (Reply.Refused refusal) = Unit {0}
-IsRefusal (Reply.Taken added next) = ⊥
+IsRefusal (Reply.Taken added group next) = ⊥

@@ -1,7 +1,8 @@
 //! Calls that `run_draw` makes, each by itself on the round of 16 of 2021/22: in its file the winners
 //! stand at the places 0 to 7 and the runners-up at 8 to 15.
 
-ghost use Rattle.std.specs.Prelude.{◌≡◌, IfOk};
+ghost use Rattle.std.specs.Prelude.{◌≡◌, IfOk, OnOk};
+ghost use Rattle.draw_tables.specs.Positions.{HasCleanPositions};
 
 use crate::offers::offer_at;
 use crate::tests::{file_of, fine, input, listed, start, turn_of, words};
@@ -20,7 +21,7 @@ use serial_search::Session;
 use std::alloc::{AllocError, Global};
 use std::sync::Arc;
 use std::test::Fail;
-use team_files::{Code, TeamId};
+use team_files::{Code, Kind, TeamId};
 
 const REAL_MADRID: TeamId = TeamId(3);
 
@@ -103,10 +104,21 @@ fn candidates_have_moves(rt: HostRuntime) -> Result<(), Fail> {
     Ok(())
 }
 
-/// The offer of a state, from a session of its own.
+/// Lets the state of a pairing pass, which has no positions.
+fn pass_pairing(state: &State) -> Result<(), AllocError>
+    ensures { OnOk result (HasCleanPositions state.now.file state.now.moves) }
+{
+    match state.file().kind() {
+        Kind::Group => Err(AllocError),
+        Kind::Pairing => Ok(()),
+    }
+}
+
+/// The offer of a pairing's state, from a session of its own.
 fn offer_of(alloc: Global, state: &State) -> Result<Offer, AllocError>
     ensures { IfOk result (λ o. o.state ≡ state.now) }
 {
+    pass_pairing(state)?;
     let enc = Encoded::new(alloc, state.file().clone_in(alloc)?)?;
     let mut session = Session::new(alloc, Arc::try_clone(enc.problem())?)?;
     offer_at(alloc, &enc, &mut session, state)

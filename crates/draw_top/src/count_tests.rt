@@ -16,21 +16,23 @@ use team_files::{Kind, TeamId};
 /// The places of the winners in their pot, runner-up by runner-up, as they were drawn in 2021/22.
 const DRAWN: [usize; 8] = [3, 5, 0, 1, 2, 7, 4, 6];
 
-/// The count problem of a file.
+/// The count problem of a pairing's file; no test here has another file.
 fn problem_of(alloc: Global, file: &DrawFile) -> Result<Problem, AllocError>
     ensures { IfOk result (λ problem. problem ≡ rules_of file.now) }
 {
     match file.kind() {
+        Kind::Group => Err(AllocError),
         Kind::Pairing => encode(alloc, file),
     }
 }
 
-/// The literals of a state's moves.
+/// The literals of the moves of a pairing's state.
 fn lits_in(alloc: Global, state: &State) -> Result<Vec<Lit>, AllocError>
     ensures { IfOk result (λ lits. lits.items ≡ lits_of_moves state.now.file state.now.moves) }
 {
     let file = state.file();
     match file.kind() {
+        Kind::Group => Err(AllocError),
         Kind::Pairing => lits_of(alloc, file, state.moves()),
     }
 }
@@ -75,6 +77,7 @@ fn table_of(alloc: Global, state: &State, values: &[bool]) -> Result<Option<Tabl
 {
     let file = state.file();
     match file.kind() {
+        Kind::Group => Ok(None),
         Kind::Pairing => {
             let table = decode(alloc, file, state.moves(), values)?;
             Ok(Some(table))
@@ -170,6 +173,7 @@ fn make_their_table(alloc: Global, state: &State, given: &[usize]) -> Result<boo
     let values = values_of(alloc, 8, given)?;
     match decoded(alloc, state, &values)? {
         Some(Table::Pairs(pairs)) => Ok(are_places(pairs.winners(), given)),
+        Some(Table::Group(_)) => Ok(false),
         None => Ok(false),
     }
 }

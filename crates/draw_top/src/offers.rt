@@ -2,6 +2,7 @@
 
 ghost use Rattle.std.specs.Prelude.{◌≡◌, IfOk, OnOk};
 ghost use Rattle.draw_state.specs.Runs.{IsStepBelowLimit};
+ghost use Rattle.draw_tables.specs.Positions.{HasCleanPositions};
 ghost use Rattle.offer_engine.specs.Questions.{AreAnswersOf, AreWithin, asked};
 ghost use Rattle.offer_engine.specs.Turns.{IsReady};
 
@@ -11,7 +12,7 @@ use offer_engine::{Encoded, Offer, OfferFault, TurnFault, offer_from, questions}
 use serial_search::{Answer, Session, solve};
 use std::alloc::{AllocError, Global};
 
-/// The offer of a state of the file.
+/// The offer of a state of the file, whose positions are clean.
 pub(crate) fn offer_at(
     alloc: Global,
     enc: &Encoded,
@@ -20,6 +21,7 @@ pub(crate) fn offer_at(
 ) -> Result<Offer, AllocError>
     requires problem { session.old.problem ≡ enc.now.problem }
     requires file { state.now.file ≡ enc.now.file }
+    requires clean { HasCleanPositions state.now.file state.now.moves }
     ensures state { IfOk result (λ o. o.state ≡ state.now) }
     ensures kept { session.new.problem ≡ session.old.problem }
 {
@@ -72,7 +74,7 @@ pub(crate) fn reply_below_limit(
     Ok(turn.finish())
 }
 
-/// Gives a turn that was just begun the offer that it wants, where it wants one.
+/// Gives a turn the offers that it wants, one after another.
 fn give_wanted(
     alloc: Global,
     enc: &Encoded,
@@ -86,13 +88,13 @@ fn give_wanted(
     ensures command { turn.new.command ≡ turn.old.command }
     ensures kept { session.new.problem ≡ session.old.problem }
 {
-    let Some(next) = turn.wants() else {
-        return Ok(());
-    };
-    let offer = offer_at(alloc, enc, session, next)?;
-    match turn.give(alloc, offer) {
-        Ok(()) => Ok(()),
-        Err(TurnFault::NoMemory) => Err(AllocError),
-        Err(TurnFault::WrongState { moves: _ }) => unreachable!(),
+    while let Some(next) = turn.wants() {
+        let offer = offer_at(alloc, enc, session, next)?;
+        match turn.give(alloc, offer) {
+            Ok(()) => {}
+            Err(TurnFault::NoMemory) => return Err(AllocError),
+            Err(TurnFault::WrongState { moves: _ }) => unreachable!(),
+        }
     }
+    Ok(())
 }

@@ -185,6 +185,37 @@ fn small_draws_are_answered(rt: HostRuntime) -> Result<(), Fail> {
     Ok(())
 }
 
+/// Group draws. Two groups, in which AAA's place is fixed, so that BBB takes the other group, and CCC
+/// that of BBB, since a group has one team of its tag; a position that another team has by a fixed
+/// place, which is drawn later; four teams of one tag, of which a group may have one.
+#[test]
+fn group_draws_are_answered(rt: HostRuntime) -> Result<(), Fail> {
+    let alloc = rt.alloc();
+    for (head, lines, answer) in [
+        (
+            r#"{"kind":"group","groups":2,"pots":2,"teams":[{"code":"AAA","pot":1,"tags":["X"]},{"code":"BBB","pot":1,"tags":["Y"]},{"code":"CCC","pot":2,"tags":["X"]},{"code":"DDD","pot":2,"tags":["Y"]}],"limits":[{"tag":"X","lo":0,"hi":1},{"tag":"Y","lo":0,"hi":1}],"places":[{"code":"AAA","group":"A","position":1}]}"#,
+            "ball CCC\nball 2\nball BBB\nball AAA\nball 3\nball CCC\nball 1\nball DDD\nball 2\nball DDD\nball 2\nball 2\n",
+            "draw group 4 teams\nnext team pot 1: AAA BBB\nrefused phase\nrefused phase\nplaced BBB B\nnext team pot 1: AAA\nplaced AAA A\nnext team pot 2: CCC DDD\nrefused unknown\nplaced CCC B\nnext position CCC: 2\nrefused phase\nrefused phase\nstands CCC B2\nnext team pot 2: DDD\nplaced DDD A\nnext position DDD: 2\nstands DDD A2\ncomplete\nrefused complete\n",
+        ),
+        (
+            r#"{"kind":"group","groups":1,"pots":3,"teams":[{"code":"CCC","pot":3,"tags":["X"]},{"code":"BBB","pot":2,"tags":["X"]},{"code":"AAA","pot":1,"tags":["X"]}],"limits":[{"tag":"X","lo":3,"hi":3}],"places":[{"code":"CCC","group":"A","position":2}]}"#,
+            "ball AAA\nball BBB\nball 2\nball BBB\nball 3\nball CCC\nball 3\nball 2\n",
+            "draw group 3 teams\nnext team pot 1: AAA\nplaced AAA A\nnext team pot 2: BBB\nplaced BBB A\nnext position BBB: 3\nrefused excluded\nrefused phase\nstands BBB A3\nnext team pot 3: CCC\nplaced CCC A\nnext position CCC: 2\nrefused excluded\nstands CCC A2\ncomplete\n",
+        ),
+        (
+            r#"{"kind":"group","groups":2,"pots":2,"teams":[{"code":"AAA","pot":1,"tags":["X"]},{"code":"BBB","pot":1,"tags":["X"]},{"code":"CCC","pot":2,"tags":["X"]},{"code":"DDD","pot":2,"tags":["X"]}],"limits":[{"tag":"X","lo":0,"hi":1}]}"#,
+            "ball AAA\n",
+            "draw group 4 teams\nimpossible\nrefused excluded\n",
+        ),
+    ] {
+        assert!(rt;
+            gives(&rt, alloc, head, lines, Status::Ok, ("", answer))?,
+            "{lines}"
+        );
+    }
+    Ok(())
+}
+
 /// Whether each of so many lines that name no team is answered, and each later one refused.
 fn limit_is_kept<R: Threads + Wait + Sync>(rt: &R, alloc: Global) -> Result<bool, AllocError> {
     let mut lines = String::new(alloc);
@@ -216,7 +247,8 @@ fn refused_heads_are_told(rt: HostRuntime) -> Result<(), Fail> {
         ("[]", "2 NotObject\n"),
         ("7\n--\nball VIL\nball MCI\n", "2 NotObject\n"),
         (r#"{"kind":"cup"}"#, "3 KindUnknown\n"),
-        (r#"{"kind":"group"}"#, "14 KindNotBuilt\n"),
+        (r#"{"kind":"league"}"#, "14 KindNotBuilt\n"),
+        (r#"{"kind":"group"}"#, "4 FieldMissing groups\n"),
         (r#"{"kind":"pairing"}"#, "4 FieldMissing teams\n"),
         (r#"{"kind":"pairing","teams":7}"#, "5 FieldWrong teams\n"),
         (r#"{"kind":"pairing","teams":[]}"#, "9 PotSize 1 0\n"),

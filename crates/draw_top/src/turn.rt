@@ -5,7 +5,7 @@ ghost use Rattle.draw_state.specs.Replies.{IsFileNextLine, IsFileReply};
 
 use crate::offers::{offer_at, reply_below_limit};
 use draw_state::{Command, MOST_COMMANDS, NextLine, Refusal, Reply, State, law_replies_name_teams};
-use offer_engine::{Encoded, Offer};
+use offer_engine::{Encoded, Offer, law_clean_where_completable};
 use rule_sets::DrawFile;
 use serial_search::Session;
 use std::alloc::{AllocError, Global};
@@ -37,6 +37,8 @@ impl Turn {
         ensures file { IfOk result (λ t. t.file ≡ file.now) }
         ensures moves { IfOk result (λ t. t.moves ≡ []) }
     {
+        law_replies_name_teams();
+        law_clean_where_completable();
         let enc = Encoded::new(alloc, file.clone_in(alloc)?)?;
         let mut session = Session::new(alloc, Arc::try_clone(enc.problem())?)?;
         let state = State::start(alloc, enc.file())?;

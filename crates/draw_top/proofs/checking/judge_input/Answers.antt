@@ -1,11 +1,16 @@
-use Rattle.std.proofs.Common.{inl, inr}
+use Rattle.std.proofs.Common.{inl, inr, refl}
 use Rattle.draw_top.specs.declared.status.Status.{Status}
 use Rattle.draw_top.specs.Follow.{IsRefusalOf}
-use Rattle.draw_top.specs.Check.{IsObjectionTo}
+use Rattle.draw_top.specs.Check.{IsApprovalOf, IsObjectionTo}
 use Rattle.draw_top.specs.Modes.{Judge}
 use Rattle.draw_top.proofs.TableVerdicts.{legal_decides, objection_decides, refusal_decides}
 use Rattle.draw_top.proofs.RowsOfStatuses.{ended, complete}
 use Rattle.draw_top.proofs.checking.judge_input.Goals as goal
+
+pub returns-in-Ok-Legal-clause-ends : goal.returns-in-Ok-Legal-clause-ends
+returns-in-Ok-Legal-clause-ends g c =
+    let legal = rw (c.deref.ensures.value, c.in-Ok-Legal.field-0-is) at c.in-Ok-Legal.ensures in
+    ended Judge c.in-Ok.input.items _ Status.Ok _ _ _ IsApprovalOf (λ h. h) c.in-Ok.ensures.read (legal, refl) (inl (legal, refl)) c.finish.ensures
 
 pub returns-in-Ok-Legal-clause-complete : goal.returns-in-Ok-Legal-clause-complete
 returns-in-Ok-Legal-clause-complete g c = λ called.
