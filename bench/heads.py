@@ -47,3 +47,31 @@ def hall(few, size=20):
     winners = [team(1, number, [f"W{number}"], "H" if number <= size - few else "W") for number in range(size)]
     runners = [team(2, number, [f"R{number}"], "H" if number < few else "R") for number in range(size)]
     return written(winners + runners)
+
+
+def generated(number, groups=8):
+    """The head of a group draw from a number: so many groups of four pots, and six tags, each of which a
+    group has at most once. The table that has team k of each pot in group k is legal."""
+    state = number
+    first = []
+    for _ in range(groups):
+        state = (state * 6364136223846793005 + 1442695040888963407) % 2**64
+        first.append((state >> 33) % 6)
+    teams = [
+        {"code": f"T{pot}{k}", "pot": pot, "tags": [f"T{(first[k] + pot) % 6}"]} for pot in range(1, 5) for k in range(groups)
+    ]
+    limits = [{"tag": f"T{tag}", "lo": 0, "hi": 1} for tag in range(6)]
+    return json.dumps({"kind": "group", "groups": groups, "pots": 4, "teams": teams, "limits": limits}).encode()
+
+
+def crowded(groups):
+    """A group draw of two pots that no table completes: a tag of which a group may have one team has one
+    team more than there are groups, half of them in each pot."""
+    held = {1: (groups + 1) // 2, 2: groups + 1 - (groups + 1) // 2}
+    teams = [
+        {"code": f"{'AB'[pot - 1]}{k:02}", "pot": pot, "tags": ["X" if k < held[pot] else "Y"]}
+        for pot in (1, 2)
+        for k in range(groups)
+    ]
+    limits = [{"tag": "X", "lo": 0, "hi": 1}, {"tag": "Y", "lo": 0, "hi": 2}]
+    return json.dumps({"kind": "group", "groups": groups, "pots": 2, "teams": teams, "limits": limits}).encode()

@@ -6,7 +6,7 @@ are run, and bin/lint-draw-file go by. A head of another kind is refused as not 
 
 import sys
 
-BUILT = ("pairing",)
+BUILT = ("pairing", "group")
 
 if __name__ == "__main__":
     sys.exit(0 if sys.argv[1:] and set(sys.argv[1:]) <= set(BUILT) else 1)
