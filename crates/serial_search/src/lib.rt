@@ -29,6 +29,7 @@ mod slacks;
 mod solving;
 #[cfg(test)]
 mod tests;
+mod turns;
 mod work;
 
 pub use answer::Answer;

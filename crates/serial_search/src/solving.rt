@@ -8,7 +8,7 @@ ghost use Rattle.serial_search.specs.Sides as spec;
 
 use crate::answer::Answer;
 use crate::outcome::Outcome;
-use crate::picking::{Heuristic, other_side_of};
+use crate::picking::Heuristic;
 use crate::rounds::search_by_learning;
 use crate::side::{Side, search};
 use crate::work::Work;
@@ -71,22 +71,19 @@ fn search_round(
     ensures linked { spec.AreLinked log.new engine.new }
     ensures continued { spec.IsContinued log.old log.new }
 {
+    let turns = work.turns;
     work.left = budget;
-    let first = Heuristic::FewestUnset;
-    let side = search_once(alloc, question, log, engine, work, first)?;
+    let side = search_once(alloc, question, log, engine, work, turns.first)?;
     if !is_stopped(side) {
         return Ok(side);
     }
     work.left = budget;
-    let second = Heuristic::LeastSlackFrom { place: 0 };
-    let side = search_once(alloc, question, log, engine, work, second)?;
+    let side = search_once(alloc, question, log, engine, work, turns.second)?;
     if !is_stopped(side) {
         return Ok(side);
     }
     work.left = budget;
-    let place = other_side_of(engine.problem().rules());
-    let third = Heuristic::LeastSlackFrom { place };
-    search_once(alloc, question, log, engine, work, third)
+    search_once(alloc, question, log, engine, work, turns.third)
 }
 
 fn is_stopped(side: Side) -> bool

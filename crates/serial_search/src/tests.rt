@@ -100,8 +100,9 @@ fn pigeonholes(alloc: Global, pigeons: u32) -> Result<SharedProblem, Fail> {
 }
 
 /// A pairing of 20 runners-up and 20 winners. So many of the runners-up may meet only the last
-/// winners, one fewer, and none meets the winner of its own number.
-fn hall_set(alloc: Global, few: u32) -> Result<SharedProblem, Fail> {
+/// winners, one fewer, and none meets the winner of its own number. Place p of each pot has the team
+/// with the number p * `stride` modulo 20: with stride 1 the file has them in their order.
+fn hall_set(alloc: Global, few: u32, stride: u32) -> Result<SharedProblem, Fail> {
     let mut rules = Vec::new(alloc);
     for runner_up in 0..20u32 {
         rules.push(line_of(alloc, runner_up.wrapping_mul(20), 1, 20, 1)?)?;
@@ -110,7 +111,8 @@ fn hall_set(alloc: Global, few: u32) -> Result<SharedProblem, Fail> {
         rules.push(line_of(alloc, winner, 20, 20, 1)?)?;
     }
     for atom in 0..400u32 {
-        let (runner_up, winner) = (atom / 20, atom % 20);
+        let runner_up = (atom / 20).wrapping_mul(stride) % 20;
+        let winner = (atom % 20).wrapping_mul(stride) % 20;
         if runner_up == winner || (runner_up < few && winner.wrapping_add(few) <= 20) {
             rules.push(rule_of(alloc, &[atom], 0, 0)?)?;
         }
@@ -282,12 +284,23 @@ fn pigeons(rt: HostRuntime) -> Result<(), Fail> {
 }
 
 /// A Hall set of k runners-up has the same refutation as k pigeons. It leaves 21 - k winners to one
-/// runner-up fewer, and so one of 21 - k has it too. It takes at most twice as many conflicts.
+/// runner-up fewer, and so one of 21 - k has it too. It takes at most twice as many conflicts, in
+/// whatever order the teams stand in the file.
 #[test]
 fn hall_sets(rt: HostRuntime) -> Result<(), Fail> {
     let alloc = rt.alloc();
-    for (few, steps) in [(3, 2), (6, 50), (10, 1794), (11, 1794), (15, 50), (18, 2)] {
-        let (possible, number, _opened, counts) = empty_report(alloc, hall_set(alloc, few)?)?;
+    for (few, stride, steps) in [
+        (3, 1, 2),
+        (6, 1, 50),
+        (10, 1, 1794),
+        (11, 1, 1794),
+        (15, 1, 50),
+        (18, 1, 2),
+        (10, 7, 1794),
+        (11, 13, 1794),
+    ] {
+        let problem = hall_set(alloc, few, stride)?;
+        let (possible, number, _opened, counts) = empty_report(alloc, problem)?;
         assert_eq!(rt; (possible, number), (false, steps));
         assert!(rt; counts.conflicts <= 2 * steps as u64 && counts.fallbacks == 0);
     }

@@ -2,6 +2,7 @@ use crate::analysis::Analysis;
 use crate::counts::Counts;
 use crate::picking::Heuristic;
 use crate::slacks::Slacks;
+use crate::turns::Turns;
 use count_core::{NoMemory, Problem};
 use propagation::{Engine, Mark};
 use std::alloc::Global;
@@ -18,6 +19,8 @@ pub(crate) struct Work {
     /// The marks before the decisions of the present run, in their order.
     levels: Vec<Mark>,
     slacks: Slacks,
+    /// The heuristics in the order of their turns.
+    pub(crate) turns: Turns,
 }
 
 impl Work {
@@ -37,6 +40,7 @@ impl Work {
             left: 0,
             levels: Vec::new(alloc),
             slacks,
+            turns: Turns::of(alloc, problem)?,
         })
     }
 
