@@ -71,7 +71,7 @@ module _ (file : DrawFile) where
       (pot, (omega arith, omega arith), (among_kept (λ s. not (is_drawn s ms)) (teams_of_pot pot file) t kept).1)
 
   -- the pot of a team that stands in a pot
-  pot_is : (pot : ℕ) (t : TeamId) → IsAmong (teams_of_pot pot file) t → pot_of file t ≡ Some pot
+  pub pot_is : (pot : ℕ) (t : TeamId) → IsAmong (teams_of_pot pot file) t → pot_of file t ≡ Some pot
   pot_is pot t among =
       let h = among_pot pot 0 file.teams t among in
       let n : t.0 ≡ h.0 = omega (arith, h.2.number) in
@@ -110,7 +110,7 @@ module _ (file : DrawFile) where
             placed_has_group ms t k (subst (λ r. IsAmong ms (Placed r k)) same there) (waits_for_group file ms t waits).without
 
     -- an open group is possible where some legal table has the team in it
-    is_possible : (groups : GroupTable) (g pot : ℕ) → file.kind ≡ Kind.Group → IsLegalGroups file groups.places → Extends file (Group groups) ms → pot_of file t ≡ Some pot
+    pub is_possible : (groups : GroupTable) (g pot : ℕ) → file.kind ≡ Kind.Group → IsLegalGroups file groups.places → Extends file (Group groups) ms → pot_of file t ≡ Some pot
         → g < file.groups → has_placed file ms pot g ≡ false → group_of groups.places t ≡ Some g → IsPossible file ms (choice.Group g)
     is_possible groups g pot kind legal extends of_pot lt free stands = (Placed t g, (candidate, ap (λ p. move_in p (choice.Group g)) waits), (Group groups, (kind, legal), extends_more file (Group groups) ms (Placed t g) extends stands))
       where

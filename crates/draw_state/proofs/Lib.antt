@@ -17,3 +17,12 @@ pub mod ToldGroups
 pub mod TakenOff
 -- next lines, steps and runs
 pub mod Steps
+-- ---- tables drawn ball by ball
+-- what a legal group table gives
+pub mod TablePlaces
+-- what the balls of one team change of what the moves say
+pub mod TableMoves
+-- runs of balls that are taken, and how many balls a table has
+pub mod TableRuns
+-- each legal group table is drawn ball by ball
+pub mod TableDraws

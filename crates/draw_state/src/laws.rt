@@ -1,4 +1,9 @@
-ghost use Rattle.draw_state.specs.Laws.{OneOutcome, OfferedIsAccepted, StatesStay, StepsBelowLimit, RepliesNameTeams, OneRun};
+ghost use Rattle.draw_state.specs.Laws.{OneOutcome, OfferedIsAccepted, StatesStay, StepsBelowLimit};
+ghost use Rattle.draw_state.specs.Laws.{RepliesNameTeams, OneRun};
+ghost use Rattle.draw_state.specs.TableBalls.{TablesAreDrawn};
+
+use rule_sets::law_files_have_form;
+use team_files::law_find_by_code;
 
 /// Of each command exactly one thing is true: it is accepted with one action or refused for one
 /// cause, the first that holds.
@@ -32,3 +37,12 @@ pub fn law_replies_name_teams()
 pub fn law_one_run()
     ensures { OneRun }
 {}
+
+/// Each legal table of a group draw can be drawn ball by ball, where each state of its file has an
+/// offer: each of its balls is taken, and after them the draw is complete with this table alone.
+pub fn law_tables_are_drawn()
+    ensures { TablesAreDrawn }
+{
+    law_files_have_form();
+    law_find_by_code();
+}

@@ -16,7 +16,7 @@ pub use commands::{Action, Command, Word};
 pub use judging::{MOST_COMMANDS, judge_command, next_line};
 pub use laws::{
     law_offered_is_accepted, law_one_outcome, law_one_run, law_replies_name_teams, law_states_stay,
-    law_steps_below_limit,
+    law_steps_below_limit, law_tables_are_drawn,
 };
 pub use lists::{Choices, Moves};
 pub use replies::{NextLine, Refusal, Reply};

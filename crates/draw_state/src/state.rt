@@ -1,9 +1,11 @@
-ghost use Rattle.std.specs.Prelude.{◌≡◌, ◌≢◌, ◌↔◌, [], ◌∷◌, ◌++◌, IfOk, OnOk, OnErr, IfErr, IsTrue, MatchOption, Some};
+ghost use Rattle.std.specs.Prelude.{◌≡◌, ◌≢◌, ◌↔◌, [], ◌∷◌, ◌++◌, IfOk, OnOk, OnErr, IfErr, IsTrue};
+ghost use Rattle.std.specs.Prelude.{MatchOption, Some};
 ghost use Rattle.draw_tables.specs.declared.moves.Choice.{Choice as ChoiceValue};
 ghost use Rattle.draw_tables.specs.Names.{AreFileChoices};
 ghost use Rattle.draw_tables.specs.Lists.{IsAmong};
 ghost use Rattle.draw_state.specs.State.{TakesOffBall};
-ghost use Rattle.draw_tables.specs.States.{phase_of, candidates, move_in, IsMoveOf, IsCandidateMove, IsState};
+ghost use Rattle.draw_tables.specs.States.{phase_of, candidates, move_in, IsMoveOf};
+ghost use Rattle.draw_tables.specs.States.{IsCandidateMove, IsState};
 
 use crate::NoMemory;
 use draw_tables::{Choice, Move, Phase, candidates, is_candidate, move_of, phase_of};

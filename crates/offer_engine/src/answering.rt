@@ -1,4 +1,5 @@
-ghost use Rattle.std.specs.Prelude.{◌≡◌, ◌↔◌, ◌<◌, [], ◌∷◌, length, map, slice_get, Some, IfErr, IfOk, OnOk, IsTrue, MatchOption};
+ghost use Rattle.std.specs.Prelude.{◌≡◌, ◌↔◌, ◌<◌, [], ◌∷◌, length, map, slice_get, Some, IfErr};
+ghost use Rattle.std.specs.Prelude.{IfOk, OnOk, IsTrue, MatchOption};
 ghost use Rattle.std.specs.List.{AllByRecursion as Each};
 ghost use Rattle.count_core.specs.Assignments.{Satisfies, SatisfiesQuestion};
 ghost use Rattle.count_core.specs.Limits.{number_limit};
@@ -10,8 +11,10 @@ ghost use Rattle.draw_tables.specs.States.{candidates, phase_of};
 ghost use Rattle.serial_search.specs.declared.outcome.Outcome.{Outcome as OutcomeValue};
 ghost use Rattle.offer_engine.specs.Encodings.{lits_of, rules_of};
 ghost use Rattle.offer_engine.specs.Faults.{IsOfferFault};
-ghost use Rattle.offer_engine.specs.Offers.{ComesOf, IsCompletion, KeepsAnswers, Shows, StandAsAnswered, StandsRight};
-ghost use Rattle.offer_engine.specs.Questions.{AreOfProblem, DrawsTeam, IsFirstWrong, MovesStayClean, asked, question_of, questions};
+ghost use Rattle.offer_engine.specs.Offers.{ComesOf, IsCompletion, KeepsAnswers, Shows};
+ghost use Rattle.offer_engine.specs.Offers.{StandAsAnswered, StandsRight};
+ghost use Rattle.offer_engine.specs.Questions.{AreOfProblem, DrawsTeam, IsFirstWrong};
+ghost use Rattle.offer_engine.specs.Questions.{MovesStayClean, asked, question_of, questions};
 
 use crate::NoMemory;
 use crate::asking::{questions_of, state_with};
@@ -111,10 +114,10 @@ fn standings_of(
     state.file();
     let choices = state.candidates(alloc)?;
     match state.phase() {
-        Phase::Runner => standings_alike(alloc, state, &choices, answers),
-        Phase::Opponent { runner: _ } => standings_apart(alloc, state, &choices, answers),
-        Phase::Team { pot: _ } => standings_alike(alloc, state, &choices, answers),
-        Phase::Group { team: _ } => standings_apart(alloc, state, &choices, answers),
+        Phase::Runner | Phase::Team { pot: _ } => standings_alike(alloc, state, &choices, answers),
+        Phase::Opponent { runner: _ } | Phase::Group { team: _ } => {
+            standings_apart(alloc, state, &choices, answers)
+        }
         Phase::Position { team } => standings_of_positions(alloc, state, team, &choices, answers),
         Phase::Complete => Ok(Vec::new(alloc)),
     }

@@ -35,11 +35,12 @@ pub(crate) fn questions_of(alloc: Global, state: &State) -> Result<Vec<Question>
     ensures few { IfOk result (λ v. length v.items < number_limit) }
 {
     match state.phase() {
-        Phase::Runner => question_alone(alloc, state),
-        Phase::Opponent { runner: _ } => questions_of_candidates(alloc, state),
-        Phase::Team { pot: _ } => question_alone(alloc, state),
-        Phase::Group { team: _ } => questions_of_candidates(alloc, state),
-        Phase::Position { team: _ } => question_alone(alloc, state),
+        Phase::Runner | Phase::Team { pot: _ } | Phase::Position { team: _ } => {
+            question_alone(alloc, state)
+        }
+        Phase::Opponent { runner: _ } | Phase::Group { team: _ } => {
+            questions_of_candidates(alloc, state)
+        }
         Phase::Complete => Ok(Vec::new(alloc)),
     }
 }

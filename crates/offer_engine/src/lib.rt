@@ -28,6 +28,7 @@ pub use encoded::Encoded;
 pub use faults::{OfferFault, TurnFault};
 pub use laws::{
     law_clean_where_completable, law_offer_exists, law_one_wanted, law_ready_or_waiting,
+    law_tables_drawn,
 };
 pub use offer::Offer;
 pub use standing::Standing;

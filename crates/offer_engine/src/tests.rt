@@ -4,7 +4,8 @@ ghost use Rattle.offer_engine.specs.Questions.{AreAnswersOf, AreOfProblem, AreWi
 
 use crate::{
     Encoded, NoMemory, Offer, OfferFault, Standing, Turn, TurnFault, law_clean_where_completable,
-    law_offer_exists, law_one_wanted, law_ready_or_waiting, offer_from, questions,
+    law_offer_exists, law_one_wanted, law_ready_or_waiting, law_tables_drawn, offer_from,
+    questions,
 };
 use count_core::Question;
 use draw_state::{Command, NextLine, Refusal, Reply, State, Word};
@@ -15,7 +16,7 @@ use serial_search::{Answer, Session, solve};
 use std::alloc::Global;
 use std::sync::Arc;
 use std::test::Fail;
-use team_files::{Code, Kind, TeamId};
+use team_files::{Code, TeamId};
 
 /// The file of a head, with its problem.
 fn encoded(alloc: Global, head: &str) -> Result<Encoded, NoMemory> {
@@ -83,14 +84,16 @@ fn answers_to(
     Ok(answers)
 }
 
-/// Lets the state of a pairing pass, which has no positions.
-fn pass_pairing(state: &State) -> Result<(), NoMemory>
+/// Lets a state pass in which no ball gave a position, so that its positions are clean.
+fn pass_unpositioned(state: &State) -> Result<(), NoMemory>
     ensures { OnOk result (HasCleanPositions state.now.file state.now.moves) }
 {
-    match state.file().kind() {
-        Kind::Group => Err(NoMemory),
-        Kind::Pairing => Ok(()),
+    for step in state.moves() {
+        if let Move::Positioned(_, _) = step {
+            return Err(NoMemory);
+        }
     }
+    Ok(())
 }
 
 /// What comes of a state and answers to questions of another.
@@ -104,17 +107,17 @@ fn fault_of(
     requires state { state.now.file ≡ enc.now.file }
     requires other { other.now.file ≡ enc.now.file }
 {
-    pass_pairing(state)?;
+    pass_unpositioned(state)?;
     let answers = answers_to(alloc, enc, other, most)?;
     Ok(offer_from(alloc, enc, state, &answers).err())
 }
 
 /// The offer of a state.
 fn offer_at(alloc: Global, enc: &Encoded, state: &State) -> Result<Offer, NoMemory>
-    requires { state.now.file ≡ enc.now.file }
+    requires file { state.now.file ≡ enc.now.file }
+    requires clean { HasCleanPositions state.now.file state.now.moves }
     ensures { IfOk result (λ o. o.state ≡ state.now) }
 {
-    pass_pairing(state)?;
     let answers = answers_to(alloc, enc, state, usize::MAX)?;
     match offer_from(alloc, enc, state, &answers) {
         Ok(offer) => Ok(offer),
@@ -129,90 +132,132 @@ fn ball(code: &[u8]) -> Command {
     }
 }
 
-/// Gives a turn the offer that it wants, where it wants one.
-fn give_wanted(alloc: Global, enc: &Encoded, turn: &mut Turn) -> Result<(), NoMemory>
-    requires { turn.old.before.state.file ≡ enc.now.file }
-{
-    let Some(next) = turn.wants() else {
-        return Ok(());
-    };
-    let offer = offer_at(alloc, enc, next)?;
-    match turn.give(alloc, offer) {
-        Ok(()) => Ok(()),
-        Err(_) => Err(NoMemory),
-    }
+/// The ball of a position.
+fn position_ball(position: u32) -> Command {
+    Command::Ball(Word::Number(position))
 }
 
-/// The turn of a ball on the state after these moves.
-fn begun(alloc: Global, enc: &Encoded, moves: &[Move], code: &[u8]) -> Result<Turn, NoMemory>
+/// Gives a turn the offer that it wants, and tells the phase of its state. None where it wants none.
+fn give_wanted(alloc: Global, enc: &Encoded, turn: &mut Turn) -> Option<Phase>
+    requires { turn.old.before.state.file ≡ enc.now.file }
+    ensures { turn.new.before.state.file ≡ enc.now.file }
+{
+    let next = turn.wants()?;
+    let phase = next.phase();
+    let offer = offer_at(alloc, enc, next).ok()?;
+    turn.give(alloc, offer).ok()?;
+    Some(phase)
+}
+
+/// The turn of a ball on the state after these moves, in which no ball gave a position.
+fn begun(alloc: Global, enc: &Encoded, moves: &[Move], command: Command) -> Result<Turn, NoMemory>
     ensures { IfOk result (λ t. t.before.state.file ≡ enc.now.file) }
 {
     let state = state_after(alloc, enc, moves)?;
+    pass_unpositioned(&state)?;
     let before = offer_at(alloc, enc, &state)?;
-    let turn = Turn::begin(alloc, before, ball(code))?;
+    let turn = Turn::begin(alloc, before, command)?;
     Ok(turn)
 }
 
-/// The same with the offer that it wants.
-fn played(alloc: Global, enc: &Encoded, moves: &[Move], code: &[u8]) -> Result<Turn, NoMemory> {
-    let mut turn = begun(alloc, enc, moves, code)?;
-    let _given = give_wanted(alloc, enc, &mut turn);
-    Ok(turn)
+/// What came of a turn: the phases of the states whose offers it wanted, in order, the reply, and
+/// how many moves the state after it has.
+#[derive(Drop)]
+struct Ended {
+    wanted: [Option<Phase>; 2],
+    reply: Reply,
+    number: usize,
 }
 
-/// The reply of a turn, and how many moves the state after it has.
-fn ended(turn: Turn) -> Option<(Reply, usize)> {
+/// What comes of a ball after these moves. None where the turn wants a third offer.
+fn played(
+    alloc: Global,
+    enc: &Encoded,
+    moves: &[Move],
+    command: Command,
+) -> Result<Option<Ended>, NoMemory> {
+    let mut turn = begun(alloc, enc, moves, command)?;
+    let first = give_wanted(alloc, enc, &mut turn);
+    let second = give_wanted(alloc, enc, &mut turn);
+    Ok(finished(turn, [first, second]))
+}
+
+/// What came of a turn that wanted these offers and wants no other.
+fn finished(turn: Turn, wanted: [Option<Phase>; 2]) -> Option<Ended> {
     if turn.wants().is_some() {
         return None;
     }
     let (reply, after) = turn.finish();
-    Some((reply, after.state().moves().len()))
+    let number = after.state().moves().len();
+    Some(Ended {
+        wanted,
+        reply,
+        number,
+    })
 }
 
-/// Whether a ball after these moves is refused for the phase, and leaves them.
-fn refuses(alloc: Global, enc: &Encoded, moves: &[Move], code: &[u8]) -> Result<bool, NoMemory> {
-    let turn = played(alloc, enc, moves, code)?;
-    let Some((reply, number)) = ended(turn) else {
+/// Whether a ball after these moves is refused for this cause, needs no offer, and leaves them.
+fn refuses(
+    alloc: Global,
+    enc: &Encoded,
+    moves: &[Move],
+    command: Command,
+    cause: Refusal,
+) -> Result<bool, NoMemory> {
+    let Some(ended) = played(alloc, enc, moves, command)? else {
         return Ok(false);
     };
-    Ok(matches!(reply, Reply::Refused(Refusal::Phase)) && number == moves.len())
+    let refused = matches!(&ended.reply, Reply::Refused(refusal) if *refusal == cause);
+    Ok(refused && ended.wanted == [None, None] && ended.number == moves.len())
 }
 
-/// Whether a ball after these moves is taken with this move, and the phase comes next.
+/// What an accepted ball comes to: the phases of the states whose offers the turn wants, the moves
+/// that it adds, the group that is told, and what comes next.
+#[derive(Clone, Copy)]
+struct Taken<'a> {
+    wanted: [Option<Phase>; 2],
+    added: &'a [Move],
+    group: Option<u32>,
+    phase: Phase,
+    choices: &'a [Choice],
+}
+
+/// Whether a ball after these moves comes to this.
 fn takes(
     alloc: Global,
     enc: &Encoded,
     moves: &[Move],
-    code: &[u8],
-    added: Move,
-    phase: Phase,
+    command: Command,
+    expected: Taken,
 ) -> Result<bool, NoMemory> {
-    let turn = played(alloc, enc, moves, code)?;
-    let Some((reply, number)) = ended(turn) else {
+    let Some(ended) = played(alloc, enc, moves, command)? else {
         return Ok(false);
     };
-    Ok(is_taken(&reply, added, phase) && number == moves.len() + 1)
+    let number = moves.len().saturating_add(expected.added.len());
+    Ok(
+        is_taken(&ended.reply, expected)
+            && ended.wanted == expected.wanted
+            && ended.number == number,
+    )
 }
 
-/// Whether the reply is that the ball added this move, and the phase comes next, with the one winner
-/// where it waits for a ball.
-fn is_taken(reply: &Reply, added: Move, next_phase: Phase) -> bool {
-    let Reply::Taken {
-        moves,
-        group: None,
-        next,
-    } = reply
-    else {
+/// Whether the reply to a ball is this.
+fn is_taken(reply: &Reply, expected: Taken) -> bool {
+    let Reply::Taken { moves, group, next } = reply else {
         return false;
     };
-    let follows = match next {
+    moves.as_slice() == expected.added && *group == expected.group && comes_next(next, expected)
+}
+
+/// Whether this comes next.
+fn comes_next(next: &NextLine, expected: Taken) -> bool {
+    match next {
         NextLine::Choices { phase, choices } => {
-            *phase == next_phase && choices.as_slice() == [Choice::Team(WINNER)].as_slice()
+            *phase == expected.phase && choices.as_slice() == expected.choices
         }
-        NextLine::Complete => next_phase == Phase::Complete,
+        NextLine::Complete => expected.phase == Phase::Complete,
         NextLine::Impossible => false,
-    };
-    follows && moves.as_slice() == [added].as_slice()
+    }
 }
 
 const RUNNER: TeamId = TeamId(1);
@@ -226,6 +271,7 @@ const VIL: TeamId = TeamId(13);
 fn counted(alloc: Global, enc: &Encoded, state: &State) -> Result<(usize, usize), NoMemory>
     requires { state.now.file ≡ enc.now.file }
 {
+    pass_unpositioned(state)?;
     let offer = offer_at(alloc, enc, state)?;
     let mut offered = 0usize;
     for (_choice, standing) in offer.standings() {
@@ -311,7 +357,7 @@ fn fault_of_old_offer(alloc: Global, turn: &mut Turn) -> Option<TurnFault> {
 
 /// The same of the turn of the second ball of the draw of two teams.
 fn old_offer(alloc: Global, enc: &Encoded) -> Result<Option<TurnFault>, NoMemory> {
-    let mut turn = begun(alloc, enc, &[Move::Drawn(RUNNER)], b"AAA")?;
+    let mut turn = begun(alloc, enc, &[Move::Drawn(RUNNER)], ball(b"AAA"))?;
     let fault = fault_of_old_offer(alloc, &mut turn);
     Ok(fault)
 }
@@ -324,19 +370,92 @@ fn a_turn_wants_the_offer_after_its_ball(rt: HostRuntime) -> Result<(), Fail> {
     law_one_wanted();
     law_clean_where_completable();
     law_offer_exists();
+    law_tables_drawn();
     let alloc = rt.alloc();
     let enc = encoded(alloc, TWO_TEAMS)?;
     let drawn = [Move::Drawn(RUNNER)];
-    let paired = Move::Paired(RUNNER, WINNER);
-    let opponent = Phase::Opponent { runner: RUNNER };
-    let refused = refuses(alloc, &enc, &drawn, b"BBB");
-    let first = takes(alloc, &enc, &[], b"BBB", drawn[0], opponent);
-    let last = takes(alloc, &enc, &drawn, b"AAA", paired, Phase::Complete);
+    let opponent = Taken {
+        wanted: [Some(Phase::Opponent { runner: RUNNER }), None],
+        added: &drawn,
+        group: None,
+        phase: Phase::Opponent { runner: RUNNER },
+        choices: &[Choice::Team(WINNER)],
+    };
+    let end = Taken {
+        wanted: [Some(Phase::Complete), None],
+        added: &[Move::Paired(RUNNER, WINNER)],
+        group: None,
+        phase: Phase::Complete,
+        choices: &[],
+    };
+    let refused = refuses(alloc, &enc, &drawn, ball(b"BBB"), Refusal::Phase);
+    let first = takes(alloc, &enc, &[], ball(b"BBB"), opponent);
+    let last = takes(alloc, &enc, &drawn, ball(b"AAA"), end);
     let old = old_offer(alloc, &enc);
     drop(enc);
     assert!(rt; refused?);
     assert!(rt; first?);
     assert!(rt; last?);
     assert!(rt; old? == Some(TurnFault::WrongState { moves: 1 }));
+    Ok(())
+}
+
+/// Two groups and two pots, and at most one team of a tag in a group.
+const TWO_GROUPS: &str =
+    r#"{"kind":"group","groups":2,"pots":2,"teams":[{"code":"AAA","pot":1,"tags":["X"]},{"code":"BBB","pot":1,"tags":["Y"]},{"code":"CCC","pot":2,"tags":["X"]},{"code":"DDD","pot":2,"tags":["Y"]}],"limits":[{"tag":"X","lo":0,"hi":1},{"tag":"Y","lo":0,"hi":1}]}"#;
+
+/// The same where all teams have one tag, so that no table is legal.
+const ONE_TAG: &str =
+    r#"{"kind":"group","groups":2,"pots":2,"teams":[{"code":"AAA","pot":1,"tags":["X"]},{"code":"BBB","pot":1,"tags":["X"]},{"code":"CCC","pot":2,"tags":["X"]},{"code":"DDD","pot":2,"tags":["X"]}],"limits":[{"tag":"X","lo":0,"hi":1}]}"#;
+
+/// The first ball where no table is legal.
+fn refuses_first(alloc: Global) -> Result<bool, NoMemory> {
+    let enc = encoded(alloc, ONE_TAG)?;
+    let refused = refuses(alloc, &enc, &[], ball(b"AAA"), Refusal::Excluded);
+    drop(enc);
+    refused
+}
+
+/// In a group draw the ball of a team wants two offers: that of the state in which the team waits
+/// for its group, and that of the state in which it has the first possible one. CCC may not stand
+/// with AAA in group A, and takes B. The ball of its position wants one offer, and its reply tells
+/// the group. Where no table is legal a team's ball is refused and adds nothing.
+#[test]
+fn a_teams_ball_wants_two_offers(rt: HostRuntime) -> Result<(), Fail> {
+    let alloc = rt.alloc();
+    let enc = encoded(alloc, TWO_GROUPS)?;
+    let [aaa, bbb, ccc, ddd] = [TeamId(0), TeamId(1), TeamId(2), TeamId(3)];
+    let moves = [
+        Move::Drawn(aaa),
+        Move::Placed(aaa, 0),
+        Move::Drawn(bbb),
+        Move::Placed(bbb, 1),
+        Move::Drawn(ccc),
+        Move::Placed(ccc, 1),
+    ];
+    let group = Taken {
+        wanted: [
+            Some(Phase::Group { team: ccc }),
+            Some(Phase::Position { team: ccc }),
+        ],
+        added: &moves[4..],
+        group: None,
+        phase: Phase::Position { team: ccc },
+        choices: &[Choice::Position(2)],
+    };
+    let position = Taken {
+        wanted: [Some(Phase::Team { pot: 2 }), None],
+        added: &[Move::Positioned(ccc, 2)],
+        group: Some(1),
+        phase: Phase::Team { pot: 2 },
+        choices: &[Choice::Team(ddd)],
+    };
+    let placed = takes(alloc, &enc, &moves[..4], ball(b"CCC"), group);
+    let positioned = takes(alloc, &enc, &moves, position_ball(2), position);
+    drop(enc);
+    let refused = refuses_first(alloc);
+    assert!(rt; placed?);
+    assert!(rt; positioned?);
+    assert!(rt; refused?);
     Ok(())
 }

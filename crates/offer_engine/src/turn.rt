@@ -1,4 +1,5 @@
-ghost use Rattle.std.specs.Prelude.{◌≡◌, ◌<◌, ◌↔◌, List, length, IfErr, IfOk, IfSome, IsNone, IsSome, MatchOption, OnErr, OnOk};
+ghost use Rattle.std.specs.Prelude.{◌≡◌, ◌<◌, ◌↔◌, List, length, IfErr, IfOk, IfSome, IsNone};
+ghost use Rattle.std.specs.Prelude.{IsSome, MatchOption, OnErr, OnOk};
 ghost use Rattle.draw_tables.specs.declared.moves.Move.{Move as MoveValue};
 ghost use Rattle.draw_tables.specs.Lists.{IsAmong};
 ghost use Rattle.draw_tables.specs.Positions.{HasCleanPositions};
@@ -6,10 +7,12 @@ ghost use Rattle.draw_tables.specs.States.{candidates};
 ghost use Rattle.draw_state.specs.declared.commands.Action.{Action as ActionValue};
 ghost use Rattle.draw_state.specs.Runs.{group_told};
 ghost use Rattle.draw_state.specs.State.{State as StateValue};
-ghost use Rattle.offer_engine.specs.Courses.{IsUngiven, PlacesTeam, TakesBall, TakesGroup, TellsTaken, WaitsFor};
+ghost use Rattle.offer_engine.specs.Courses.{IsUngiven, PlacesTeam, TakesBall, TakesGroup};
+ghost use Rattle.offer_engine.specs.Courses.{TellsTaken, WaitsFor};
 ghost use Rattle.offer_engine.specs.Faults.{IsTurnFault};
 ghost use Rattle.offer_engine.specs.Offers.{Offer as OfferValue};
-ghost use Rattle.offer_engine.specs.Turns.{IsBegun, IsGroupOffer, IsReady, Replies, Wants, after_of, state_with as with_moves, with_offer};
+ghost use Rattle.offer_engine.specs.Turns.{IsBegun, IsGroupOffer, IsReady, Replies, Wants};
+ghost use Rattle.offer_engine.specs.Turns.{after_of, state_with as with_moves, with_offer};
 
 use crate::NoMemory;
 use crate::asking::state_with;
