@@ -2,24 +2,14 @@
 #![tactic(auto)]
 
 mod answering;
-#[cfg(test)]
-mod call_tests;
-#[cfg(test)]
-mod check_tests;
 mod checking;
-#[cfg(test)]
-mod count_tests;
 mod endings;
 mod faults;
 mod following;
 mod laws;
 mod offers;
 mod run;
-#[cfg(test)]
-mod state_tests;
 mod status;
-#[cfg(test)]
-mod tests;
 mod turn;
 
 pub use checking::run_check;

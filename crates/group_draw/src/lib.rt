@@ -12,8 +12,6 @@ mod encoding;
 mod laws;
 mod literals;
 mod positions;
-#[cfg(test)]
-mod tests;
 
 pub use correspondence::{
     law_agreeing_satisfy, law_completable_where_satisfied, law_rules_and_questions_are_formed,

@@ -1,6 +1,6 @@
 use Rattle.std.proofs.Common.{drop}
 use Rattle.count_core.specs.Assignments.{SatisfiesQuestion}
-use Rattle.draw_top.proofs.count_tests.make_true.Given as goal
+use Rattle.top_tests.proofs.pairing_counts.make_true.Given as goal
 
 -- the literals so far are true, so those left decide
 abbrev pub invariant-loop-lit : goal.invariant-loop-lit
